@@ -1,0 +1,5 @@
+pub mod BitRows
+pub mod Codes
+pub mod NumberLaws
+pub mod TextParts
+pub mod TextLaws

@@ -1,0 +1,4 @@
+// Output kinds.
+pub fn nothing() -> u8 {
+    0
+}
