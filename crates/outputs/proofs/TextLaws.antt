@@ -150,7 +150,7 @@ text-coded =
       (λ n x gn gx. (and-from (leb (length x) 24) (all-bytes x) (subst (λ m. leb m 24 ≡ true) (sym (gx .0)) gn) (gx .1), ap (λ m. bits 5 m ++ spread x) (gx .0)))
       (λ x g. let p = and-parts (leb (length x) 24) (all-bytes x) g in (length x, x, p .0, (refl, p .1), refl))
 
-length-spread : (x : List ℕ) → length (spread x) ≡ 8 * length x
+pub length-spread : (x : List ℕ) → length (spread x) ≡ 8 * length x
 length-spread [] = refl
 length-spread (a ∷ x) = omega (arith, length-append (bits 8 a) (spread x), length-bits 8 a, length-spread x)
 

@@ -2,3 +2,8 @@ pub mod Bits
 pub mod Kinds
 pub mod Numbers
 pub mod Texts
+pub mod Fields
+pub mod Written
+pub mod Joins
+pub mod Refusals
+pub mod TextReading
