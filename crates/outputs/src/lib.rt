@@ -6,3 +6,6 @@ pub mod refusal;
 pub mod sink;
 pub mod source;
 pub mod text;
+
+#[cfg(test)]
+mod tests;

@@ -37,7 +37,7 @@ pub impl Output for Number as NumberOutput {
     fn join(&self, other: &Number) -> Number {
         match self.value.checked_add(other.value) {
             Some(value) => Number { value },
-            None => Number { value: 0 },
+            None => Number::empty(),
         }
     }
 

@@ -34,7 +34,7 @@ pub impl Output for Text as TextOutput {
 
     fn join(&self, other: &Text) -> Text {
         if self.len + other.len > LONGEST {
-            return Text { bytes: [0; 24], len: 0 };
+            return Text::empty();
         }
         Text { bytes: overwritten(self.bytes, self.len, other.as_bytes()), len: self.len + other.len }
     }
@@ -45,7 +45,7 @@ pub impl Output for Text as TextOutput {
 
     fn rest(&self, prefix: &Text) -> Text {
         if agreeing(prefix.as_bytes(), self.as_bytes()) < prefix.len {
-            return Text { bytes: [0; 24], len: 0 };
+            return Text::empty();
         }
         let behind = &self.bytes[prefix.len..self.len];
         Text { bytes: overwritten([0; 24], 0, behind), len: behind.len() }

@@ -23,7 +23,7 @@ pub returns-then-self-other-gt-LONGEST : need.returns-then-self-other-gt-LONGEST
 returns-then-self-other-gt-LONGEST c =
     let a = c .args .self .now in
     let b = c .args .other .now in
-    sym (cond-false _ _ _ (sym (fits a b) ∙ lt-leb (a .len + b .len) 24 (c .if-self-other-gt-LONGEST .taken)))
+    c .empty .ensures ∙ sym (cond-false _ _ _ (sym (fits a b) ∙ lt-leb (a .len + b .len) 24 (c .if-self-other-gt-LONGEST .taken)))
 
 pub returns : need.returns
 returns c =

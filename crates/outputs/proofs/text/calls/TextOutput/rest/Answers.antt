@@ -18,7 +18,7 @@ returns-then-agreeing-prefix c =
     let e = ap (take n) (sym (c .as-bytes .ensures)) ∙ c .agreeing .ensures .shared ∙ ap₂ shared (c .as-bytes .ensures) (c .as-bytes-2 .ensures) in
     let l : length (take (x .len) (x .bytes)) ≡ x .len = length-take-le (x .len) (x .bytes) (omega (arith, x .fits, x .row)) in
     let few : length (shared (take (x .len) (x .bytes)) (take (z .len) (z .bytes))) < length (take (x .len) (x .bytes)) = omega (arith, ap length e, length-take-le n (take (x .len) (x .bytes)) (omega (arith, l, c .if-agreeing-prefix .taken)), l, c .if-agreeing-prefix .taken) in
-    sym (after-else-shared (take (x .len) (x .bytes)) (take (z .len) (z .bytes)) few)
+    c .empty .ensures ∙ sym (after-else-shared (take (x .len) (x .bytes)) (take (z .len) (z .bytes)) few)
 
 pub returns : need.returns
 returns c =
