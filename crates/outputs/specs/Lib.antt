@@ -7,3 +7,4 @@ pub mod Written
 pub mod Joins
 pub mod Refusals
 pub mod TextReading
+pub mod Digests

@@ -1,5 +1,7 @@
 // Whole numbers, joined by addition.
 ghost use Prim.Native.Nat.{_<_, _^_};
+ghost use lib.ListN.{drop};
+ghost use Rattle.outputs.specs.Joins.{Read};
 ghost use Rattle.outputs.specs.Numbers.{numbers};
 use crate::output::Output;
 use crate::sink::BitSink;
@@ -18,6 +20,8 @@ pub impl Output for Number as NumberOutput {
 
     ghost meaning = { λ n. n .value };
 
+    ghost digested = { λ n. n };
+
     fn kind_number() -> u8 {
         1
     }
@@ -28,6 +32,10 @@ pub impl Output for Number as NumberOutput {
 
     fn same(&self, other: &Number) -> bool {
         self.value == other.value
+    }
+
+    fn digest(&self) -> u64 {
+        u64::from(self.value)
     }
 
     fn joins(&self, other: &Number) -> bool {
@@ -54,7 +62,14 @@ pub impl Output for Number as NumberOutput {
     }
 
     fn read<B: BitSource>(source: &B, place: usize) -> Result<(Number, usize), Unread<B::Short>> {
-        let value = source.field(place, 32)?;
-        Ok((Number { value }, place + 32))
+        read_number(source, place)
     }
+}
+
+// The 32 bits of a number, and the place behind them.
+fn read_number<B: BitSource>(source: &B, place: usize) -> Result<(Number, usize), Unread<B::Short>>
+    ensures { λ r. ⌜ Read numbers (λ n. n .value) (numbers .read (drop place (B·BitSource .all (now (source .entry))))) place (B·BitSource .lacks (now (source .entry)) place) r ⌝ }
+{
+    let value = source.field(place, 32)?;
+    Ok((Number { value }, place + 32))
 }

@@ -1,6 +1,7 @@
 // What every kind of outputs offers.
 ghost use mathlib.Core.Path.{_≡_};
 ghost use mathlib.Core.Bool.{true};
+ghost use Prim.Native.Nat.{ℕ};
 ghost use lib.ListN.{drop};
 ghost use Rattle.outputs.specs.Kinds.{Kind, Laws};
 ghost use Rattle.outputs.specs.Joins.{Tells, Read, join-or-empty};
@@ -16,6 +17,9 @@ pub trait Output: Copy {
     // The ideal output that a value stands for.
     ghost meaning: { Self → kind .Ideal };
 
+    // A number for each output, by which equal outputs are found quickly.
+    ghost digested: { kind .Ideal → ℕ };
+
     law lawful: { Laws kind };
 
     law stored: { (x : Self) → kind .storable (meaning x) ≡ true };
@@ -29,6 +33,10 @@ pub trait Output: Copy {
 
     fn same(&self, other: &Self) -> bool
         ensures { λ r. ⌜ Tells (meaning (now (self .entry))) (meaning (now (other .entry))) r ⌝ };
+
+    // The same number for equal outputs.
+    fn digest(&self) -> u64
+        ensures { λ r. ⌜ r ≡ digested (meaning (now (self .entry))) ⌝ };
 
     // Whether the join is storable.
     fn joins(&self, other: &Self) -> bool

@@ -1,7 +1,7 @@
 // Byte strings of up to 24 bytes.
 ghost use mathlib.Core.Path.{_≡_};
 ghost use mathlib.Core.Bool.{true};
-ghost use mathlib.Core.List.{_++_};
+ghost use mathlib.Core.List.{[], _++_};
 ghost use Prim.Native.Nat.{_+_, _≤_};
 ghost use lib.ListN.{length, take};
 ghost use Rattle.outputs.specs.Texts.{all-bytes, shared};
@@ -9,6 +9,7 @@ ghost use Rattle.outputs.specs.Refusals.{Made};
 use crate::refusal::TextRefusal;
 
 mod calls;
+mod joining;
 mod reading;
 
 pub use calls::TextOutput;
@@ -42,6 +43,13 @@ impl Text {
     {
         &self.bytes[0..self.len]
     }
+}
+
+// The text of no bytes.
+fn no_text() -> Text
+    ensures { λ r. ⌜ take (r .len) (r .bytes) ≡ [] ⌝ }
+{
+    Text { bytes: [0; 24], len: 0 }
 }
 
 // `bytes` with `from` written over them from a place on.

@@ -1,14 +1,20 @@
 // Texts as outputs, joined by concatenation.
 ghost use lib.ListN.{take};
+ghost use Rattle.outputs.specs.Digests.{digest-from};
 ghost use Rattle.outputs.specs.Texts.{texts};
 use crate::output::Output;
 use crate::sink::BitSink;
 use crate::source::BitSource;
 use crate::source::Unread;
-use super::LONGEST;
 use super::Text;
-use super::agreeing;
-use super::overwritten;
+use super::joining::digest_of;
+use super::joining::equal;
+use super::joining::join_fits;
+use super::joining::joined;
+use super::joining::rest_behind;
+use super::joining::shared_part;
+use super::joining::write_text;
+use super::no_text;
 use super::reading::read_text;
 
 pub impl Output for Text as TextOutput {
@@ -16,46 +22,42 @@ pub impl Output for Text as TextOutput {
 
     ghost meaning = { λ t. take (t .len) (t .bytes) };
 
+    ghost digested = { digest-from 0 };
+
     fn kind_number() -> u8 {
         2
     }
 
     fn empty() -> Text {
-        Text { bytes: [0; 24], len: 0 }
+        no_text()
     }
 
     fn same(&self, other: &Text) -> bool {
-        self.len == other.len && agreeing(self.as_bytes(), other.as_bytes()) == self.len
+        equal(self, other)
+    }
+
+    fn digest(&self) -> u64 {
+        digest_of(self)
     }
 
     fn joins(&self, other: &Text) -> bool {
-        self.len + other.len <= LONGEST
+        join_fits(self, other)
     }
 
     fn join(&self, other: &Text) -> Text {
-        if self.len + other.len > LONGEST {
-            return Text::empty();
-        }
-        Text { bytes: overwritten(self.bytes, self.len, other.as_bytes()), len: self.len + other.len }
+        joined(self, other)
     }
 
     fn common(&self, other: &Text) -> Text {
-        Text { bytes: self.bytes, len: agreeing(self.as_bytes(), other.as_bytes()) }
+        shared_part(self, other)
     }
 
     fn rest(&self, prefix: &Text) -> Text {
-        if agreeing(prefix.as_bytes(), self.as_bytes()) < prefix.len {
-            return Text::empty();
-        }
-        let behind = &self.bytes[prefix.len..self.len];
-        Text { bytes: overwritten([0; 24], 0, behind), len: behind.len() }
+        rest_behind(prefix, self)
     }
 
     fn write<K: BitSink>(&self, sink: &mut K) {
-        sink.put(self.len as u32, 5);
-        for byte in self.as_bytes() {
-            sink.put(u32::from(*byte), 8);
-        }
+        write_text(self, sink);
     }
 
     fn read<B: BitSource>(source: &B, place: usize) -> Result<(Text, usize), Unread<B::Short>> {

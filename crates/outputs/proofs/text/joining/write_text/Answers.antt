@@ -7,11 +7,11 @@ use lib.Seq.{length-take-le}
 use Rattle.std.proofs.shelf.Lists.{take-all}
 use Rattle.outputs.specs.Bits.{bits, spread}
 use Rattle.outputs.proofs.TextBytes.{spread-more}
-use Rattle.outputs.proofs.text.calls.TextOutput.write.Needs as need
+use Rattle.outputs.proofs.text.joining.write_text.Needs as need
 
 pub loop-byte-again : need.loop-byte-again
 loop-byte-again g c =
-    let t = c .args .self .now in
+    let t = c .args .text .now in
     let i = c .loop-byte .byte-index in
     let e = c .as-bytes-byte-items .ensures in
     subst (λ row. g .K·BitSink .took (c .put .last .self) row (c .put-in-loop-byte .last .self))
@@ -20,7 +20,7 @@ loop-byte-again g c =
 
 pub returns : need.returns
 returns g c =
-    let t = c .args .self .now in
+    let t = c .args .text .now in
     let e = c .as-bytes-byte-items .ensures in
     subst (λ row. g .K·BitSink .took (c .args .sink .now) row (c .loop-byte .sink))
       (ap₂ (λ n xs. bits 5 n ++ spread xs)

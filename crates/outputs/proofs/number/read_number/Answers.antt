@@ -7,7 +7,7 @@ use Rattle.std.proofs.shelf.Results.{err-from-errBy}
 use Rattle.outputs.specs.Numbers.{numbers}
 use Rattle.outputs.proofs.BitRows.{length-bits}
 use Rattle.outputs.proofs.FieldReads.{read-there, read-cut, by-reading}
-use Rattle.outputs.proofs.number.NumberOutput.read.Needs as need
+use Rattle.outputs.proofs.number.read_number.Needs as need
 
 pub returns-in-Break-value : need.returns-in-Break-value
 returns-in-Break-value g c =

@@ -8,22 +8,22 @@ use lib.Seq.{length-take-le}
 use Rattle.std.proofs.shelf.Lists.{take-all, drop-take}
 use Rattle.outputs.specs.Texts.{after, shared}
 use Rattle.outputs.proofs.TextBytes.{after-shared, after-else-shared}
-use Rattle.outputs.proofs.text.calls.TextOutput.rest.Needs as need
+use Rattle.outputs.proofs.text.joining.rest_behind.Needs as need
 
 pub returns-then-agreeing-prefix : need.returns-then-agreeing-prefix
 returns-then-agreeing-prefix c =
     let x = c .args .prefix .now in
-    let z = c .args .self .now in
+    let z = c .args .whole .now in
     let n = c .agreeing .result in
     let e = ap (take n) (sym (c .as-bytes .ensures)) ∙ c .agreeing .ensures .shared ∙ ap₂ shared (c .as-bytes .ensures) (c .as-bytes-2 .ensures) in
     let l : length (take (x .len) (x .bytes)) ≡ x .len = length-take-le (x .len) (x .bytes) (omega (arith, x .fits, x .row)) in
     let few : length (shared (take (x .len) (x .bytes)) (take (z .len) (z .bytes))) < length (take (x .len) (x .bytes)) = omega (arith, ap length e, length-take-le n (take (x .len) (x .bytes)) (omega (arith, l, c .if-agreeing-prefix .taken)), l, c .if-agreeing-prefix .taken) in
-    c .empty .ensures ∙ sym (after-else-shared (take (x .len) (x .bytes)) (take (z .len) (z .bytes)) few)
+    c .no-text .ensures ∙ sym (after-else-shared (take (x .len) (x .bytes)) (take (z .len) (z .bytes)) few)
 
 pub returns : need.returns
 returns c =
     let x = c .args .prefix .now in
-    let z = c .args .self .now in
+    let z = c .args .whole .now in
     let n = c .agreeing .result in
     let l : length (take (x .len) (x .bytes)) ≡ x .len = length-take-le (x .len) (x .bytes) (omega (arith, x .fits, x .row)) in
     let m : length (take (z .len) (z .bytes)) ≡ z .len = length-take-le (z .len) (z .bytes) (omega (arith, z .fits, z .row)) in
