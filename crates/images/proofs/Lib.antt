@@ -1,0 +1,10 @@
+pub mod Packing
+pub mod Bytes
+pub mod Standing
+pub mod RecordReads
+pub mod IndexReads
+pub mod ImageLengths
+pub mod HeadReads
+pub mod RoundTrip
+pub mod MinimalFits
+pub mod PairsLoad

@@ -1,0 +1,14 @@
+pub mod Lists
+pub mod Keys
+pub mod Machines
+pub mod Lengths
+pub mod Counts
+pub mod Pairs
+pub mod Residuals
+pub mod Minimal
+pub mod Realizing
+pub mod Numbering
+pub mod Storing
+pub mod Memory
+pub mod Runs
+pub mod Asked
