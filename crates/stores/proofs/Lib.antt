@@ -1,0 +1,4 @@
+pub mod Putting
+pub mod Running
+pub mod Tailing
+pub mod Wording

@@ -1,0 +1,9 @@
+pub mod Refusals
+pub mod Reads
+pub mod Appends
+pub mod Memories
+pub mod Words
+pub mod Tails
+pub mod Sound
+pub mod Follows
+pub mod Runs
