@@ -1,26 +1,19 @@
 // Compiles small sheets by brute force, prints what comes out, and compares it with what is expected.
 use std::error::AnyError;
 
-mod bits;
-mod fault;
-mod image;
-mod machine;
-mod reference;
-mod sheets;
+mod agreement;
 mod table;
 mod tally;
-#[cfg(test)]
-mod tests;
-mod values;
+mod tape;
 
-use sheets::Kind;
-use sheets::SHEETS;
+use agreement::PlainNumberTwin;
+use agreement::PlainTextTwin;
+use reference::sheets::Kind;
+use reference::sheets::SHEETS;
 use table::print_sheet;
 use tally::Tally;
-use values::PlainNumber;
-use values::PlainNumberValue;
-use values::PlainText;
-use values::PlainTextValue;
+use reference::values::PlainNumber;
+use reference::values::PlainText;
 
 fn main(rt: LibcRuntime) -> Result<(), AnyError> {
     rt.report(run(&rt))
@@ -28,12 +21,19 @@ fn main(rt: LibcRuntime) -> Result<(), AnyError> {
 
 fn run(rt: &LibcRuntime) -> Result<(), AnyError> {
     let mut tally = Tally::new();
+    let mut calls = Tally::new();
     for sheet in SHEETS.iter() {
         match sheet.kind {
-            Kind::Numbers => print_sheet::<PlainNumber>(rt, sheet, &mut tally)?,
-            Kind::Texts => print_sheet::<PlainText>(rt, sheet, &mut tally)?,
+            Kind::Numbers => print_sheet::<PlainNumber>(rt, sheet, &mut tally, &mut calls)?,
+            Kind::Texts => print_sheet::<PlainText>(rt, sheet, &mut tally, &mut calls)?,
         }
     }
+    let same = calls.agree;
+    let other = calls.differ;
+    println!(
+        rt,
+        "the calls of the crate outputs: {same} answers agree, {other} differ"
+    )?;
     let count = SHEETS.len();
     let agree = tally.agree;
     let differ = tally.differ;

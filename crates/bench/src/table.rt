@@ -1,20 +1,28 @@
 // The printed table: a sheet's figures beside those expected, and its states.
+use crate::agreement::Twin;
+use crate::agreement::compare;
+use reference::fault::FaultDisplay;
+use reference::fault::FaultError;
+use reference::image::hexadecimal;
+use reference::image::image;
+use reference::machine::Machine;
+use reference::machine::StateDisplay;
+use reference::compiling::compile;
+use reference::sheets::Detail;
+use reference::sheets::Sheet;
+use reference::sheets::read_pairs;
+use crate::tally::Tally;
+use reference::values::Value;
 use std::alloc::AllocError;
 use std::alloc::Global;
 use std::error::AnyError;
-use crate::fault::FaultDisplay;
-use crate::fault::FaultError;
-use crate::image::image;
-use crate::machine::Machine;
-use crate::machine::StateDisplay;
-use crate::reference::compile;
-use crate::sheets::Detail;
-use crate::sheets::Sheet;
-use crate::sheets::read_pairs;
-use crate::tally::Tally;
-use crate::values::Value;
 
-pub fn print_sheet<V: Value>(rt: &LibcRuntime, sheet: &Sheet, tally: &mut Tally) -> Result<(), AnyError> {
+pub fn print_sheet<V: Twin>(
+    rt: &LibcRuntime,
+    sheet: &Sheet,
+    tally: &mut Tally,
+    calls: &mut Tally,
+) -> Result<(), AnyError> {
     let heap = rt.alloc();
     let pairs = read_pairs::<V>(heap, sheet.pairs)?;
     let machine = compile(heap, pairs.as_slice())?;
@@ -26,9 +34,14 @@ pub fn print_sheet<V: Value>(rt: &LibcRuntime, sheet: &Sheet, tally: &mut Tally)
     let states = tally.number(heap, machine.states.len(), sheet.states)?;
     let arcs = tally.number(heap, machine.arc_count(), sheet.arcs)?;
     let length = tally.number(heap, bytes.len(), sheet.bytes)?;
-    println!(rt, "  pairs {keys}, states {states}, arcs {arcs}, bytes {length}")?;
+    println!(
+        rt,
+        "  pairs {keys}, states {states}, arcs {arcs}, bytes {length}"
+    )?;
     print_machine(rt, &machine)?;
-    print_detail(rt, sheet.detail, &machine, &bytes, tally)
+    print_detail(rt, sheet.detail, &machine, &bytes, tally)?;
+    compare(heap, pairs.as_slice(), calls)?;
+    Ok(())
 }
 
 fn print_machine<V: Value>(rt: &LibcRuntime, machine: &Machine<V>) -> Result<(), AnyError> {
@@ -40,7 +53,13 @@ fn print_machine<V: Value>(rt: &LibcRuntime, machine: &Machine<V>) -> Result<(),
     Ok(())
 }
 
-fn print_detail<V: Value>(rt: &LibcRuntime, detail: Detail, machine: &Machine<V>, bytes: &Vec<u8>, tally: &mut Tally) -> Result<(), AnyError> {
+fn print_detail<V: Value>(
+    rt: &LibcRuntime,
+    detail: Detail,
+    machine: &Machine<V>,
+    bytes: &Vec<u8>,
+    tally: &mut Tally,
+) -> Result<(), AnyError> {
     let heap = rt.alloc();
     match detail {
         Detail::Nothing => {}
@@ -69,17 +88,4 @@ fn shown<V: Value>(heap: Global, output: Option<&V>) -> Result<String, AllocErro
         Some(output) => format!(heap, "{output}"),
         None => String::from_str(heap, "nothing"),
     }
-}
-
-// Two digits for each byte.
-pub fn hexadecimal(heap: Global, bytes: &Vec<u8>) -> Result<String, AllocError> {
-    let mut text = String::new(heap);
-    for (place, byte) in bytes.iter().enumerate() {
-        if place > 0 {
-            text.push(' ')?;
-        }
-        let digits = format!(heap, "{byte:02X}")?;
-        text.push_str(digits.as_str())?;
-    }
-    Ok(text)
 }

@@ -14,7 +14,10 @@ impl Tally {
     pub fn new() -> Tally
         ensures { λ r. ⌜ r .agree ≡ 0 ⌝ ∗ ⌜ r .differ ≡ 0 ⌝ }
     {
-        Tally { agree: 0, differ: 0 }
+        Tally {
+            agree: 0,
+            differ: 0,
+        }
     }
 
     // Counts a comparison, and names how it came out.
@@ -32,12 +35,22 @@ impl Tally {
     }
 
     // A figure with what is expected, and whether they agree.
-    pub fn number(&mut self, heap: Global, found: usize, expected: usize) -> Result<String, AllocError> {
+    pub fn number(
+        &mut self,
+        heap: Global,
+        found: usize,
+        expected: usize,
+    ) -> Result<String, AllocError> {
         let verdict = self.judge(found == expected);
         format!(heap, "{found} ({expected} expected, {verdict})")
     }
 
-    pub fn text(&mut self, heap: Global, found: &str, expected: &str) -> Result<String, AllocError> {
+    pub fn text(
+        &mut self,
+        heap: Global,
+        found: &str,
+        expected: &str,
+    ) -> Result<String, AllocError> {
         let verdict = self.judge(found.as_bytes() == expected.as_bytes());
         format!(heap, "{found} ({expected} expected, {verdict})")
     }

@@ -1,0 +1,4 @@
+pub mod LastRecord
+pub mod NewestKey
+pub mod Parting
+pub mod FiveSteps

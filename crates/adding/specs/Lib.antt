@@ -1,0 +1,4 @@
+pub mod Refusals
+pub mod Admission
+pub mod Extending
+pub mod Adding

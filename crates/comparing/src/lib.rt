@@ -1,0 +1,4 @@
+// Which closed state is equal to the newest open record.
+pub mod homes;
+pub mod newest;
+pub mod same;

@@ -1,0 +1,4 @@
+pub mod Records
+pub mod Steps
+pub mod Building
+pub mod Theorems

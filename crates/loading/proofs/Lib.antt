@@ -1,0 +1,11 @@
+pub mod Leaves
+pub mod Walking
+pub mod IndexPass
+pub mod Marking
+pub mod ArcRows
+pub mod Keeping
+pub mod StateRows
+pub mod MarkPass
+pub mod EndsAlike
+pub mod WholeSteps
+pub mod Takings

@@ -1,0 +1,3 @@
+pub mod Altering
+pub mod Changes
+pub mod Pushing

@@ -1,0 +1,4 @@
+pub mod Shape
+pub mod Holding
+pub mod Registering
+pub mod Tests

@@ -1,0 +1,2 @@
+// One lent slice for two lists that grow and shrink together.
+pub mod stack;
