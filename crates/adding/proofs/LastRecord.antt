@@ -1,13 +1,12 @@
 -- The last of some records is altered, or extended byte by byte. Assumes nothing.
 use mathlib.Core.Path.{_≡_, refl, sym, ap, _∙_}
-use mathlib.Core.List.{List, [], _∷_, _++_, map, reverse, reverse-cons}
-use Prim.Native.Nat.{ℕ, suc, _+_, _<_, _≤_}
+use mathlib.Core.List.{List, [], _∷_, _++_, reverse, reverse-cons}
+use Prim.Native.Nat.{ℕ, _+_, _<_, _≤_}
 use native.Mathlib.Omega.{arith}
 use lib.ListN.{length, take, drop}
 use Rattle.std.proofs.shelf.Lists.{take-all, take-at, drop-append-le, length-drop, length-push}
 use Rattle.outputs.specs.Kinds.{Kind}
 use Rattle.machines.specs.Keys.{Key}
-use Rattle.machines.specs.Machines.{Arc as Edge}
 use Rattle.construction.specs.Records.{Open, Held, blank}
 use Rattle.construction.specs.Steps.{add-arc, extend-last}
 use Rattle.records.proofs.Cutting.{cut-before}
@@ -33,8 +32,8 @@ module _ {X : Type 0} where
   -- the last part gets one more
   pub push-last-part : (es : List X) (e : X) (s c : ℕ) → s + c ≡ length es → take (c + 1) (drop s (es ++ (e ∷ []))) ≡ take c (drop s es) ++ (e ∷ [])
   push-last-part es e s c h =
-    let n : length (drop s es) ≡ c = omega (arith, length-drop s es) in
-    ap (take (c + 1)) (drop-append-le s es (e ∷ []) (omega arith)) ∙ take-all (c + 1) (drop s es ++ (e ∷ [])) (omega (arith, length-push (drop s es) e)) ∙ ap (λ (r : List X). r ++ (e ∷ [])) (sym (take-all c (drop s es) (omega arith)))
+      let n : length (drop s es) ≡ c = omega (arith, length-drop s es) in
+      ap (take (c + 1)) (drop-append-le s es (e ∷ []) (omega arith)) ∙ take-all (c + 1) (drop s es ++ (e ∷ [])) (omega (arith, length-push (drop s es) e)) ∙ ap (λ (r : List X). r ++ (e ∷ [])) (sym (take-all c (drop s es) (omega arith)))
 
 module _ (k : Kind) (p : ℕ) where
   -- one byte more
@@ -60,3 +59,11 @@ module _ {I : Type 0} (x : I) (h : Held I) where
 
   pub rooted-later : 0 < length (h .open′) → rooted x h ≡ h
   rooted-later n = rooted-by (h .open′) (record { closed = h .closed; open′ = blank (h .pairs) ∷ []; start = x; pairs = h .pairs }) n
+
+  pairs-by : (os : List (Open I)) (r : Held I) → r .pairs ≡ h .pairs → elim os as (λ _. Held I) [ [] ↦ r | o ∷ more ↦ h ] .pairs ≡ h .pairs
+  pairs-by [] r e = e
+  pairs-by (o ∷ os) r e = refl
+
+  -- opening takes no pair
+  pub rooted-pairs : rooted x h .pairs ≡ h .pairs
+  rooted-pairs = pairs-by (h .open′) (record { closed = h .closed; open′ = blank (h .pairs) ∷ []; start = x; pairs = h .pairs }) refl

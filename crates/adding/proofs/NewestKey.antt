@@ -5,7 +5,7 @@ use mathlib.Core.List.{List, [], _∷_}
 use Prim.Native.Nat.{ℕ, zero, suc, _+_, _-_, _<_}
 use native.Mathlib.Omega.{arith}
 use lib.ListN.{length, getD}
-use Rattle.construction.specs.Records.{Open, blank, last-byte, newest-key}
+use Rattle.construction.specs.Records.{Open, last-byte, newest-key}
 use Rattle.machines.specs.Keys.{Key, lower}
 use Rattle.pushing.specs.Changes.{arcs-at}
 use Rattle.adding.specs.Admission.{above}

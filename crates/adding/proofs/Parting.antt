@@ -1,12 +1,12 @@
 -- Where two keys part, and which of them is lower. Assumes nothing.
 use mathlib.Core.Path.{_≡_, refl, sym, ap, _∙_}
 use mathlib.Core.Bool.{Bool, true, false, _&&_, _||_}
-use mathlib.Core.List.{List, [], _∷_}
+use mathlib.Core.List.{[], _∷_}
 use Prim.Native.Nat.{ℕ, zero, suc, min, _+_, _<_, _≤_}
 use native.Mathlib.Omega.{arith}
 use lib.Dec.{eqb, ltb}
 use lib.ListN.{length, getD, drop}
-use borrow.Author.Tests.{eq-eqb, ne-eqb, eqb-true, eqb-apart, le-ltb, clash}
+use borrow.Author.Tests.{eq-eqb, ne-eqb, eqb-true, eqb-apart, le-ltb}
 use Rattle.std.proofs.shelf.Lists.{drop-more}
 use Rattle.machines.specs.Keys.{Key, lower, common-length}
 
@@ -76,8 +76,8 @@ lower-prefix [] v e = refl
 lower-prefix (a ∷ u) [] e = absurd (omega arith)
 lower-prefix (a ∷ u) (b ∷ v) e =
     by-bytes a b (lower (b ∷ v) (a ∷ u) ≡ false)
-      (λ s. lower-same a b u v s ∙ lower-prefix u v (omega (arith, common-same a b u v s, e)))
-      (λ n. absurd (omega (arith, common-apart a b u v n, e)))
+    (λ s. lower-same a b u v s ∙ lower-prefix u v (omega (arith, common-same a b u v s, e)))
+    (λ n. absurd (omega (arith, common-apart a b u v n, e)))
 
 -- a key that goes on where the other ends is above it
 pub lower-longer : (u v : Key) → common-length u v ≡ length v → length v < length u → lower v u ≡ true
@@ -85,8 +85,8 @@ lower-longer [] v e h = absurd (omega arith)
 lower-longer (a ∷ u) [] e h = refl
 lower-longer (a ∷ u) (b ∷ v) e h =
     by-bytes a b (lower (b ∷ v) (a ∷ u) ≡ true)
-      (λ s. lower-same a b u v s ∙ lower-longer u v (omega (arith, common-same a b u v s, e)) (omega arith))
-      (λ n. absurd (omega (arith, common-apart a b u v n, e)))
+    (λ s. lower-same a b u v s ∙ lower-longer u v (omega (arith, common-same a b u v s, e)) (omega arith))
+    (λ n. absurd (omega (arith, common-apart a b u v n, e)))
 
 -- else the bytes where they part tell
 pub lower-parting : (d : ℕ) (u v : Key) → d ≡ common-length u v → d < length u → d < length v → lower v u ≡ ltb (getD v d 0) (getD u d 0)
@@ -95,5 +95,5 @@ lower-parting d (a ∷ u) [] e hu hv = absurd (omega arith)
 lower-parting zero (a ∷ u) (b ∷ v) e hu hv = lower-apart a b u v (λ q. absurd (omega (arith, common-same a b u v q, e)))
 lower-parting (suc d) (a ∷ u) (b ∷ v) e hu hv =
     by-bytes a b (lower (b ∷ v) (a ∷ u) ≡ ltb (getD v d 0) (getD u d 0))
-      (λ s. lower-same a b u v s ∙ lower-parting d u v (omega (arith, common-same a b u v s, e)) (omega arith) (omega arith))
-      (λ n. absurd (omega (arith, common-apart a b u v n, e)))
+    (λ s. lower-same a b u v s ∙ lower-parting d u v (omega (arith, common-same a b u v s, e)) (omega arith) (omega arith))
+    (λ n. absurd (omega (arith, common-apart a b u v n, e)))

@@ -1,6 +1,5 @@
 -- What a builder's memory is between two adds, and what an add makes of it. Assumes nothing.
 use mathlib.Core.Path.{_≡_}
-use mathlib.Core.List.{List}
 use Prim.Native.Nat.{ℕ}
 use Rattle.std.specs.declared.result.Result.{Result}
 use Rattle.std.specs.declared.result.Result.the-variants.{Ok, Err}
@@ -9,6 +8,7 @@ use Rattle.outputs.specs.Kinds.{Kind}
 use Rattle.machines.specs.Keys.{Key, common-length}
 use Rattle.construction.specs.Records.{newest-key}
 use Rattle.construction.specs.Building.{add}
+use Rattle.construction.specs.Theorems.{Add-storable}
 use Rattle.records.specs.declared.memory.Core.{Core}
 use Rattle.records.specs.Shape.{Sound, openings}
 use Rattle.records.specs.Holding.{held}
@@ -16,10 +16,9 @@ use Rattle.records.specs.Registering.{Registered}
 use Rattle.adding.specs.declared.refusal.AddRefusal.{AddRefusal}
 use Rattle.adding.specs.Admission.{Admitted, Admits}
 
--- the memory is sound, its slots are the register of its closed states, and nothing is open only before the first pair
-pub record Ready {O I : Type 0} (digested : I → ℕ) (mean : O → I) (c : Core O) : Type 0 where
+-- the memory is sound, and nothing is open only before the first pair
+pub record Ready {O : Type 0} (c : Core O) : Type 0 where
   pub sound : Sound c
-  pub registered : Registered digested mean c
   pub first : openings c ≡ 0 → c .pairs ≡ 0
 
 -- both lists have the room that they had
@@ -27,11 +26,12 @@ pub record Same-rooms {O : Type 0} (before after : Core O) : Type 0 where
   pub states : capacity (after .states) ≡ capacity (before .states)
   pub arcs : capacity (after .arcs) ≡ capacity (before .arcs)
 
-module _ (k : Kind) {O : Type 0} (mean : O → k .Ideal) (key : Key) (x : k .Ideal) (before after : Core O) where
-  -- the pair is taken as the construction takes it
+module _ (k : Kind) (digested : k .Ideal → ℕ) {O : Type 0} (mean : O → k .Ideal) (key : Key) (x : k .Ideal) (before after : Core O) where
+  -- the pair is taken as the construction takes it, where the slots are the register of the closed states and all joins are storable
   pub record Takes : Type 0 where
     pub admitted : Admitted (capacity (before .states)) (capacity (before .arcs)) (held mean before) key (common-length key (newest-key (held mean before .open′)))
-    pub holds : held mean after ≡ add k (held mean before) key x
+    pub registered : Registered digested mean before → Registered digested mean after
+    pub holds : Registered digested mean before → Add-storable k (held mean before) key x → held mean after ≡ add k (held mean before) key x
 
   -- a pair is taken, or refused for the first reason that applies, and then nothing is changed
   abbrev pub Adds : Result (Unit {0}) AddRefusal → Type 0

@@ -54,9 +54,9 @@ pub record Accepted {O I : Type 0} (mean : O → I) (x : I) (before after : Core
 -- what is held once a record is open: before the first pair that of the empty prefix is opened, with the start output x
 abbrev pub rooted : {I : Type 0} → I → Held I → Held I
 rooted x h = elim (h .open′) [
-    [] ↦ record { closed = h .closed; open′ = blank (h .pairs) ∷ []; start = x; pairs = h .pairs }
+  | [] ↦ record { closed = h .closed; open′ = blank (h .pairs) ∷ []; start = x; pairs = h .pairs }
   | o ∷ more ↦ h
-  ]
+]
 
 -- a record is open
 pub record Rooted {O I : Type 0} (mean : O → I) (x : I) (before after : Core O) : Type 0 where

@@ -1,4 +1,4 @@
-// Taking a pair: whether its key is admitted, and what it adds to the open records.
+//! Taking a pair: whether its key is admitted, and what it adds to the open records.
 pub mod add;
 pub mod admission;
 pub mod extending;

@@ -60,7 +60,7 @@ pub impl BitSource for Tape as TapeSource {
     ghost steady = { λ s p q h k. refl };
 
     fn field(&self, place: usize, width: usize) -> Result<u32, usize> {
-        let width = width.min(32);
+        let width = 1usize.max(width.min(32));
         if place > self.count || width > self.count - place {
             return Err(self.count);
         }

@@ -51,12 +51,11 @@ pub fn settle_top<'a, O: Output>(core: &mut Core<'a, O>) -> u16
 // The newest open record becomes the next state, which is entered in the register.
 pub fn keep_top<'a, O: Output>(core: &mut Core<'a, O>, slot: usize) -> u16
     requires sound { ⌜ Sound (now core) ⌝ }
-    requires registered { ⌜ Registered (O·Output .digested) (O·Output .meaning) (now core) ⌝ }
     requires top { ⌜ 0 < openings (now core) ⌝ }
     requires missing { ⌜ No-equal (O·Output .digested) (O·Output .meaning) (now core) slot ⌝ }
     ensures popped { λ _. ⌜ Popped (now (core .entry)) (now (core .exit)) ⌝ }
-    ensures closes { λ r. ⌜ Closes (O·Output .kind) (O·Output .meaning) (now (core .entry)) (now (core .exit)) r ⌝ }
-    ensures registered { λ _. ⌜ Registered (O·Output .digested) (O·Output .meaning) (now (core .exit)) ⌝ }
+    ensures closes { λ r. ⌜ (Registered (O·Output .digested) (O·Output .meaning) (now (core .entry)) → Closes (O·Output .kind) (O·Output .meaning) (now (core .entry)) (now (core .exit)) r) ⌝ }
+    ensures registered { λ _. ⌜ (Registered (O·Output .digested) (O·Output .meaning) (now (core .entry)) → Registered (O·Output .digested) (O·Output .meaning) (now (core .exit))) ⌝ }
 {
     let number = settle_top(core);
     enter(core.slots, slot, number);
@@ -66,11 +65,10 @@ pub fn keep_top<'a, O: Output>(core: &mut Core<'a, O>, slot: usize) -> u16
 // Closes the newest open record, and gives the number of its state.
 pub fn close_top<'a, O: Output>(core: &mut Core<'a, O>) -> u16
     requires sound { ⌜ Sound (now core) ⌝ }
-    requires registered { ⌜ Registered (O·Output .digested) (O·Output .meaning) (now core) ⌝ }
     requires top { ⌜ 0 < openings (now core) ⌝ }
     ensures popped { λ _. ⌜ Popped (now (core .entry)) (now (core .exit)) ⌝ }
-    ensures closes { λ r. ⌜ Closes (O·Output .kind) (O·Output .meaning) (now (core .entry)) (now (core .exit)) r ⌝ }
-    ensures registered { λ _. ⌜ Registered (O·Output .digested) (O·Output .meaning) (now (core .exit)) ⌝ }
+    ensures closes { λ r. ⌜ (Registered (O·Output .digested) (O·Output .meaning) (now (core .entry)) → Closes (O·Output .kind) (O·Output .meaning) (now (core .entry)) (now (core .exit)) r) ⌝ }
+    ensures registered { λ _. ⌜ (Registered (O·Output .digested) (O·Output .meaning) (now (core .entry)) → Registered (O·Output .digested) (O·Output .meaning) (now (core .exit))) ⌝ }
 {
     match equal_state(core) {
         Probe::Found(number) => {
@@ -104,13 +102,13 @@ pub fn lead_to<'a, O: Output>(core: &mut Core<'a, O>, number: u16)
 // Closes the open records beyond a depth, the deepest first.
 pub fn close_beyond<'a, O: Output>(core: &mut Core<'a, O>, depth: usize)
     requires sound { ⌜ Sound (now core) ⌝ }
-    requires registered { ⌜ Registered (O·Output .digested) (O·Output .meaning) (now core) ⌝ }
     requires opened { ⌜ depth < openings (now core) ⌝ }
     ensures sound { λ _. ⌜ Sound (now (core .exit)) ⌝ }
-    ensures registered { λ _. ⌜ Registered (O·Output .digested) (O·Output .meaning) (now (core .exit)) ⌝ }
+    ensures registered { λ _. ⌜ (Registered (O·Output .digested) (O·Output .meaning) (now (core .entry)) → Registered (O·Output .digested) (O·Output .meaning) (now (core .exit))) ⌝ }
     ensures within { λ _. ⌜ Within (now (core .entry)) (now (core .exit)) ⌝ }
     ensures opens { λ _. ⌜ openings (now (core .exit)) ≡ depth + 1 ⌝ }
-    ensures holds { λ _. ⌜ held (O·Output .meaning) (now (core .exit)) ≡ closed-beyond (O·Output .kind) depth (held (O·Output .meaning) (now (core .entry))) ⌝ }
+    ensures pairs { λ _. ⌜ now (core .exit) .pairs ≡ now (core .entry) .pairs ⌝ }
+    ensures holds { λ _. ⌜ (Registered (O·Output .digested) (O·Output .meaning) (now (core .entry)) → held (O·Output .meaning) (now (core .exit)) ≡ closed-beyond (O·Output .kind) depth (held (O·Output .meaning) (now (core .entry)))) ⌝ }
 {
     let kept = depth + 1;
     for _ in kept..core.states.highs() {
@@ -122,10 +120,9 @@ pub fn close_beyond<'a, O: Output>(core: &mut Core<'a, O>, depth: usize)
 // Closes all open records. That of the empty prefix is last, and no equal state is looked for: none has keys as long.
 pub fn close_all<'a, O: Output>(core: &mut Core<'a, O>)
     requires sound { ⌜ Sound (now core) ⌝ }
-    requires registered { ⌜ Registered (O·Output .digested) (O·Output .meaning) (now core) ⌝ }
     ensures sound { λ _. ⌜ Sound (now (core .exit)) ⌝ }
     ensures opens { λ _. ⌜ openings (now (core .exit)) ≡ 0 ⌝ }
-    ensures holds { λ _. ⌜ held (O·Output .meaning) (now (core .exit)) ≡ all-closed (O·Output .kind) (held (O·Output .meaning) (now (core .entry))) ⌝ }
+    ensures holds { λ _. ⌜ (Registered (O·Output .digested) (O·Output .meaning) (now (core .entry)) → held (O·Output .meaning) (now (core .exit)) ≡ all-closed (O·Output .kind) (held (O·Output .meaning) (now (core .entry)))) ⌝ }
 {
     if core.states.highs() > 0 {
         close_beyond(core, 0);

@@ -37,7 +37,7 @@ module _ (k : Kind) (all : List Bool) (index q count : ℕ) (w : List ℕ) (p₀
   pub begins : Walked k all index q count w p₀ 0 0 0 0 p₀ w
   begins =
       let e : count ≡ count - 0 = omega arith in
-      record { done = []; ahead = ap (λ (n : ℕ). arcs k all q n 0 [] p₀) e; summed = refl; many = refl; below = tt; aimed = aimed-none w q; most = refl; }
+      record { done = []; ahead = ap (λ (n : ℕ). arcs k all q n 0 [] p₀) e; summed = refl; many = refl; below = tt; aimed = aimed-none w q; most = refl }
 
   module _ (i least keys longest p : ℕ) (w′ : List ℕ) (h : Walked k all index q count w p₀ i least keys longest p w′) where
     abbrev here : ℕ → Step (List (Arc (k .Ideal)))
@@ -83,4 +83,4 @@ module _ (k : Kind) (all : List Bool) (index q count : ℕ) (w : List ℕ) (p₀
     ends w″ e l s =
         let n : count - i ≡ 0 = omega arith in
         is-read (Row-read k all index q count w w″) (arcs k all q count 0 [] p₀) (h .done) keys p (h .ahead ∙ ap here n)
-        (record { keys = h .summed; many = h .many ∙ e; noted = noted w q w′ w″ (h .done) (h .aimed) longest l (h .below) (h .most) s; })
+        (record { keys = h .summed; many = h .many ∙ e; noted = noted w q w′ w″ (h .done) (h .aimed) longest l (h .below) (h .most) s })

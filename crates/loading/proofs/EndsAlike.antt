@@ -96,9 +96,9 @@ module _ (k : Kind) (all : List Bool) (front : Head (k .Ideal)) where
       let m : Machine (k .Ideal) = machine-of ss in
       alike-then m (refuse 24 (front .keys-place) (not (eqb (front .keys) (keys-at k all (front .index) last))) p) _ _ _ refl (λ p.
       alike-then m (refuse 24 (front .arcs-place) (not (eqb (front .arcs) (count-arcs ss))) p) (refuse 24 (front .arcs-place) (not (eqb (front .arcs) count)) p) _ _
-        (ap {A = ℕ} {B = Step (Unit {0})} (λ n. refuse 24 (front .arcs-place) (not (eqb (front .arcs) n)) p) (sym (h .arcs))) (λ p.
+      (ap {A = ℕ} {B = Step (Unit {0})} (λ n. refuse 24 (front .arcs-place) (not (eqb (front .arcs) n)) p) (sym (h .arcs))) (λ p.
       alike-then m (all-targeted k all (front .index) ss 0 last p) (all-marked k all (front .index) w 0 last p) _ _
-        (targets-alike k all (front .index) w ss (h .kept) last 0 p (omega (arith, h .many))) (λ p.
+      (targets-alike k all (front .index) w ss (h .kept) last 0 p (omega (arith, h .many))) (λ p.
       alike-then m (refuse 25 (record-place k all (front .index) last) (ltb 64 (longest-from ss last)) p) (refuse 25 (record-place k all (front .index) last) (ltb 64 (length-in w last)) p) _ _
-        (ap {A = Bool} {B = Step (Unit {0})} (λ b. refuse 25 (record-place k all (front .index) last) b p) (longest-alike k all (front .index) w ss (h .kept) last (omega (arith, h .many)))) (λ p.
+      (ap {A = Bool} {B = Step (Unit {0})} (λ b. refuse 25 (record-place k all (front .index) last) b p) (longest-alike k all (front .index) w ss (h .kept) last (omega (arith, h .many)))) (λ p.
       filled-alike m all p))))

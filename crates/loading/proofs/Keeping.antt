@@ -43,7 +43,7 @@ longest-held w lengths q [] b h = omega arith
 longest-held w lengths q (a ∷ row) b h = omega (arith, h (a .target) (b .0), longest-held w lengths q row (b .1) h)
 
 pub kept-none : {A : Type 0} (w : List ℕ) → Kept {A = A} w []
-kept-none w = record { lengths = λ q l. absurd (omega arith); marks = λ q l. absurd (omega arith); below = λ q l. refl; }
+kept-none w = record { lengths = λ q l. absurd (omega arith); marks = λ q l. absurd (omega arith); below = λ q l. refl }
 
 module _ {A : Type 0} (w w′ : List ℕ) (ss : List (State A)) (s : State A) (h : Kept w ss) (n : Noted w w′ (length ss) (s .arcs)) where
   abbrev lengths-before : List ℕ
@@ -75,20 +75,20 @@ module _ {A : Type 0} (w w′ : List ℕ) (ss : List (State A)) (s : State A) (h
   lengths u l = elim (cases-lt u (length ss)) [
     | inl b ↦ n .aimed .lengths u b ∙ h .lengths u b ∙ ap (min 100) (sym (before u b))
     | inr b ↦
-      let e : u ≡ length ss = omega (arith, long) in
-      let m : getD w′ u 0 ≡ longest-in w (s .arcs) = ap (λ (z : ℕ). getD w′ z 0) e ∙ n .own in
-      let f : longest-from (ss ++ (s ∷ [])) u ≡ longest-on lengths-before (s .arcs) = ap (longest-from (ss ++ (s ∷ []))) e ∙ here in
-      omega (arith, m, f, own, longest-small w (s .arcs))
+        let e : u ≡ length ss = omega (arith, long) in
+        let m : getD w′ u 0 ≡ longest-in w (s .arcs) = ap (λ (z : ℕ). getD w′ z 0) e ∙ n .own in
+        let f : longest-from (ss ++ (s ∷ [])) u ≡ longest-on lengths-before (s .arcs) = ap (longest-from (ss ++ (s ∷ []))) e ∙ here in
+        omega (arith, m, f, own, longest-small w (s .arcs))
   ]
 
   marks : (u : ℕ) → u < length (ss ++ (s ∷ [])) → marked-in w′ u ≡ targeted u (ss ++ (s ∷ []))
   marks u l = elim (cases-lt u (length ss)) [
     | inl b ↦ n .aimed .marks u b ∙ ap {A = Bool} {B = Bool} (λ z. z || aims u (s .arcs)) (h .marks u b) ∙ sym (targeted-more u ss s)
     | inr b ↦
-      let e : u ≡ length ss = omega (arith, long) in
-      let m : getD w′ u 0 ≡ longest-in w (s .arcs) = ap (λ (z : ℕ). getD w′ z 0) e ∙ n .own in
-      lt-leb 128 (getD w′ u 0) (omega (arith, m, longest-small w (s .arcs))) ∙ sym (not-targeted u b)
+        let e : u ≡ length ss = omega (arith, long) in
+        let m : getD w′ u 0 ≡ longest-in w (s .arcs) = ap (λ (z : ℕ). getD w′ z 0) e ∙ n .own in
+        lt-leb 128 (getD w′ u 0) (omega (arith, m, longest-small w (s .arcs))) ∙ sym (not-targeted u b)
   ]
 
   pub kept-more : Kept w′ (ss ++ (s ∷ []))
-  kept-more = record { lengths = lengths; marks = marks; below = λ u l. not-targeted u (omega (arith, long)); }
+  kept-more = record { lengths = lengths; marks = marks; below = λ u l. not-targeted u (omega (arith, long)) }

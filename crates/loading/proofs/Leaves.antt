@@ -40,9 +40,10 @@ pub field-reads : (bytes : List ℕ) (p w v : ℕ) → 0 < w → w ≤ 32 → Fi
 unfolding field
 field-reads bytes p w v l h t =
     let all : List Bool = spread bytes in
-    let t′ : Field {E = Fields.Cut} all p w (cut-at p bytes) (Ok v) = subst (λ (n : ℕ). Field {E = Fields.Cut} all p n (cut-at p bytes) (Ok v)) (width-stays w l h) t in
-    (subst (λ (b : Bool). Answers {X = ℕ} {Y = ℕ} (λ x y. x ≡ y) (field-if all w p b) (Ok (v, p + w))) (sym (le-leb (p + w) (length all) (t′ .0))) (t′ .2, refl),
-     (t′ .3, refl, t′ .0, omega (arith, t′ .0, t′ .1)))
+    let t′ : Field {E = Fields.Cut} all p w (cut-at p bytes) (Ok v) = subst (λ (n : ℕ). Field {E = Fields.Cut} all p n (cut-at p bytes) (Ok v)) (width-stays w l h) t in (
+      subst (λ (b : Bool). Answers {X = ℕ} {Y = ℕ} (λ x y. x ≡ y) (field-if all w p b) (Ok (v, p + w))) (sym (le-leb (p + w) (length all) (t′ .0))) (t′ .2, refl),
+      (t′ .3, refl, t′ .0, omega (arith, t′ .0, t′ .1)),
+    )
 
 -- a field that runs past the end
 pub field-refuses : (bytes : List ℕ) (p w : ℕ) (e : Fields.Cut) → 0 < w → w ≤ 32 → Field {E = Fields.Cut} (spread bytes) p (field-width w) (cut-at p bytes) (Err e) →

@@ -37,12 +37,12 @@ each-more P (y ∷ xs) x h l = (h .0, each-more P xs x (h .1) l)
 
 module _ {A : Type 0} (w : List ℕ) (q : ℕ) where
   pub aimed-none : Aimed {A = A} w w q []
-  aimed-none = record { lengths = λ t l. refl; marks = λ t l. sym (or-false (marked-in w t)); }
+  aimed-none = record { lengths = λ t l. refl; marks = λ t l. sym (or-false (marked-in w t)) }
 
   module _ (w′ w″ : List ℕ) (row : List (Arc A)) (h : Aimed w w′ q row) where
     -- one more arc is aimed at t
     pub aimed-more : (x : Arc A) (t : ℕ) → t < length w′ → x .target ≡ t → w″ ≡ set w′ t (length-in w′ t + 128) → Aimed w w″ q (row ++ (x ∷ []))
-    aimed-more x t l e s = record { lengths = lengths; marks = marks; }
+    aimed-more x t l e s = record { lengths = lengths; marks = marks }
       where
         same : getD w″ t 0 ≡ length-in w′ t + 128
         same = ap (λ (z : List ℕ). getD z t 0) s ∙ getD-set-same w′ t (length-in w′ t + 128) 0 l
@@ -59,26 +59,26 @@ module _ {A : Type 0} (w : List ℕ) (q : ℕ) where
         marks : (u : ℕ) → u < q → marked-in w″ u ≡ (marked-in w u || aims u (row ++ (x ∷ [])))
         marks u b = elim (cases-eq u t) [
           | inl f ↦
-            let g : getD w″ u 0 ≡ length-in w′ u + 128 = subst (λ (z : ℕ). getD w″ z 0 ≡ length-in w′ z + 128) (sym f) same in
-            let m : marked-in w″ u ≡ true = le-leb 128 (getD w″ u 0) (omega (arith, g)) in
-            let a : aims u (row ++ (x ∷ [])) ≡ true = aims-more u row x ∙ ap {A = Bool} {B = Bool} (λ z. aims u row || z) (eq-eqb (x .target) u (e ∙ sym f)) ∙ or-true (aims u row) in
-            m ∙ sym (ap {A = Bool} {B = Bool} (λ z. marked-in w u || z) a ∙ or-true (marked-in w u))
+              let g : getD w″ u 0 ≡ length-in w′ u + 128 = subst (λ (z : ℕ). getD w″ z 0 ≡ length-in w′ z + 128) (sym f) same in
+              let m : marked-in w″ u ≡ true = le-leb 128 (getD w″ u 0) (omega (arith, g)) in
+              let a : aims u (row ++ (x ∷ [])) ≡ true = aims-more u row x ∙ ap {A = Bool} {B = Bool} (λ z. aims u row || z) (eq-eqb (x .target) u (e ∙ sym f)) ∙ or-true (aims u row) in
+              m ∙ sym (ap {A = Bool} {B = Bool} (λ z. marked-in w u || z) a ∙ or-true (marked-in w u))
           | inr n ↦
-            let m : marked-in w″ u ≡ (marked-in w u || aims u row) = ap {A = ℕ} {B = Bool} (λ z. leb 128 z) (other u n) ∙ h .marks u b in
-            let a : aims u (row ++ (x ∷ [])) ≡ aims u row = aims-more u row x ∙ ap {A = Bool} {B = Bool} (λ z. aims u row || z) (ne-eqb (x .target) u (λ z. n (sym (sym e ∙ z)))) ∙ or-false (aims u row) in
-            m ∙ sym (ap {A = Bool} {B = Bool} (λ z. marked-in w u || z) a)
+              let m : marked-in w″ u ≡ (marked-in w u || aims u row) = ap {A = ℕ} {B = Bool} (λ z. leb 128 z) (other u n) ∙ h .marks u b in
+              let a : aims u (row ++ (x ∷ [])) ≡ aims u row = aims-more u row x ∙ ap {A = Bool} {B = Bool} (λ z. aims u row || z) (ne-eqb (x .target) u (λ z. n (sym (sym e ∙ z)))) ∙ or-false (aims u row) in
+              m ∙ sym (ap {A = Bool} {B = Bool} (λ z. marked-in w u || z) a)
         ]
 
     -- all arcs are aimed, and q takes its own length
     pub noted : (longest : ℕ) → q < length w′ → Each (λ arc. arc .target < q) row → longest ≡ longest-in w row → w″ ≡ set w′ q longest → Noted w w″ q row
     noted longest l b e s = record {
-        below = b;
-        aimed = record {
-          lengths = λ t k. ap {A = ℕ} {B = ℕ} (λ z. z % 128) (other t (omega arith)) ∙ h .lengths t k;
-          marks = λ t k. ap {A = ℕ} {B = Bool} (λ z. leb 128 z) (other t (omega arith)) ∙ h .marks t k;
-        };
-        own = ap (λ (z : List ℕ). getD z q 0) s ∙ getD-set-same w′ q longest 0 l ∙ e;
-      }
+      below = b;
+      aimed = record {
+        lengths = λ t k. ap {A = ℕ} {B = ℕ} (λ z. z % 128) (other t (omega arith)) ∙ h .lengths t k;
+        marks = λ t k. ap {A = ℕ} {B = Bool} (λ z. leb 128 z) (other t (omega arith)) ∙ h .marks t k;
+      };
+      own = ap (λ (z : List ℕ). getD z q 0) s ∙ getD-set-same w′ q longest 0 l ∙ e;
+    }
       where
         other : (u : ℕ) → u ≢ q → getD w″ u 0 ≡ getD w′ u 0
         other u n = ap (λ (z : List ℕ). getD z u 0) s ∙ getD-set-other w′ q u longest 0 n

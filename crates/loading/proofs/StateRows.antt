@@ -29,7 +29,7 @@ module _ (k : Kind) (all : List Bool) (index n p₀ : ℕ) where
   pub begins : (w : List ℕ) → Walked k all index n p₀ 0 0 p₀ w
   begins w =
       let e : n ≡ n - 0 = omega arith in
-      record { done = []; ahead = ap (λ (m : ℕ). records k all index 0 m [] p₀) e; many = refl; arcs = refl; kept = kept-none w; }
+      record { done = []; ahead = ap (λ (m : ℕ). records k all index 0 m [] p₀) e; many = refl; arcs = refl; kept = kept-none w }
 
   module _ (q count p : ℕ) (w : List ℕ) (h : Walked k all index n p₀ q count p w) where
     abbrev here : ℕ → Step (List (State (k .Ideal)))
@@ -67,4 +67,4 @@ module _ (k : Kind) (all : List Bool) (index n p₀ : ℕ) where
     unfolding records
     ends e =
         let z : n - q ≡ 0 = omega arith in
-        is-read (Records-read n w) (records k all index 0 n [] p₀) (h .done) count p (h .ahead ∙ ap here z) (record { many = h .many ∙ e; arcs = h .arcs; kept = h .kept; })
+        is-read (Records-read n w) (records k all index 0 n [] p₀) (h .done) count p (h .ahead ∙ ap here z) (record { many = h .many ∙ e; arcs = h .arcs; kept = h .kept })

@@ -1,7 +1,8 @@
 -- What load keeps of a whole image. Assumes nothing.
 use mathlib.Core.Path.{_≡_, refl, ap, sym, _∙_}
 use mathlib.Core.List.{List}
-use Prim.Native.Nat.{ℕ}
+use Prim.Native.Nat.{ℕ, _-_, _<_}
+use native.Mathlib.Omega.{arith}
 use Rattle.std.specs.declared.result.Result.{Result}
 use Rattle.std.specs.declared.result.Result.the-variants.{Ok, Err}
 use Rattle.std.specs.Results.{ErrBy}
@@ -31,10 +32,10 @@ module _ {O S : Type 0} (k : Kind) (meaning : O → k .Ideal) (bytes : S → Lis
   load-refuses e (Err y) h b = has-refused (Whole-read k meaning (spread (bytes store)) working) image e h ∙ ap {A = LoadRefusal} {B = Step (Machine (k .Ideal))} (λ z. refuses (reported z)) (sym b)
 
   -- the image is taken
-  pub load-reads : (loaded : Loaded O S) (front : Code.Head O) (p : ℕ) → loaded .store ≡ store → loaded .states ≡ front .states → loaded .index ≡ front .index → loaded .«start_output» ≡ front .«start_output» →
+  pub load-reads : (loaded : Loaded O S) (front : Code.Head O) (p : ℕ) → loaded .store ≡ store → 0 < front .states → loaded .start ≡ front .states - 1 → loaded .index ≡ front .index → loaded .«start_output» ≡ front .«start_output» →
       Answers (Whole-read k meaning (spread (bytes store)) working) image (Ok (front, p)) → Takes k meaning bytes working store loaded
   unfolding load
-  load-reads loaded front p same states index start h =
+  load-reads loaded front p same some-states start index output h =
       let f = has-read (Whole-read k meaning (spread (bytes store)) working) image (front, p) h in
       let taken : load k working (bytes store) ≡ reads (f .0) p = f .1 .0 in
       record {
@@ -48,9 +49,9 @@ module _ {O S : Type 0} (k : Kind) (meaning : O → k .Ideal) (bytes : S → Lis
           taken = ap {A = S} {B = Step (Machine (k .Ideal))} (λ s. load k working (bytes s)) same ∙ taken;
           front = head-of meaning front;
           front-read = ap {A = S} {B = Step (Head (k .Ideal))} (λ s. head k (spread (bytes s)) working 0) same ∙ f .1 .1 .front-read;
-          states = states;
-          many = states ∙ sym (f .1 .1 .many);
+          start = start ∙ sym (f .1 .1 .start);
+          many = f .1 .1 .many ∙ omega (arith, start);
           index = index;
-          start-output = ap meaning start ∙ sym (f .1 .1 .start-output);
+          start-output = ap meaning output ∙ sym (f .1 .1 .start-output);
         };
       }

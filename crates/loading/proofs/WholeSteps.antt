@@ -92,4 +92,4 @@ module _ {O : Type 0} (k : Kind) (meaning : O → k .Ideal) (all : List Bool) (w
       let f = has-passed (ending k all front-of count w o) t h in
       is-read (Whole-read k meaning all working) (whole k all working 0) (machine-of k all front-of (records-read .0)) front t
       (whole-reads k all working front-of index head-read (index-passed .0) q (index-passed .1) (records-read .0) o count w (records-read .1 .0) l (records-read .1 .1) (f .0) t (f .1))
-      (record { front-read = head-read ∙ ap {A = ℕ} {B = Step (Head (k .Ideal))} (λ p. reads front-of p) (sym same); many = records-read .1 .1 .many; start = refl; start-output = refl; })
+      (record { front-read = head-read ∙ ap {A = ℕ} {B = Step (Head (k .Ideal))} (λ p. reads front-of p) (sym same); many = records-read .1 .1 .many; start = refl; start-output = refl })

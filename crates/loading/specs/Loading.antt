@@ -1,7 +1,7 @@
 -- What load answers, and what a loaded store holds. Assumes nothing.
 use mathlib.Core.Path.{_≡_}
 use mathlib.Core.List.{List}
-use Prim.Native.Nat.{ℕ}
+use Prim.Native.Nat.{ℕ, _+_}
 use lib.ListN.{length}
 use Rattle.std.specs.declared.result.Result.{Result}
 use Rattle.std.specs.declared.result.Result.the-variants.{Ok, Err}
@@ -21,8 +21,8 @@ pub record Holds {O S : Type 0} (k : Kind) (meaning : O → k .Ideal) (bytes : S
   pub taken : load-step k working (bytes (loaded .store)) ≡ reads machine behind
   pub front : Head (k .Ideal)
   pub front-read : head k (spread (bytes (loaded .store))) working 0 ≡ reads front (front .index)
-  pub states : loaded .states ≡ front .states
-  pub many : loaded .states ≡ length (machine .states)
+  pub start : loaded .start ≡ machine .start
+  pub many : length (machine .states) ≡ loaded .start + 1
   pub index : loaded .index ≡ front .index
   pub start-output : meaning (loaded .«start_output») ≡ machine .start-output
 

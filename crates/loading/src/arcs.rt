@@ -24,7 +24,12 @@ pub struct Arc {
 }
 
 /// The arc of a state at a place, its byte not below `least`, and the place behind it.
-fn read_arc<O: Output, S: Store>(store: &S, place: usize, state: usize, least: u32) -> Result<(Arc, usize), LoadRefusal>
+fn read_arc<O: Output, S: Store>(
+    store: &S,
+    place: usize,
+    state: usize,
+    least: u32,
+) -> Result<(Arc, usize), LoadRefusal>
     ensures answers { λ r. ⌜ Answers (λ a x. (a .byte ≡ x .byte) × (a .target ≡ x .target)) (arc-step (O·Output .kind) (spread (S·Store .bytes (now (store .entry)))) state least place) r ⌝ }
     ensures within { λ r. ⌜ made r (λ v. (v .0 .byte < 256) × (v .0 .target < state) × (v .1 < 2 ^ 32) × (v .1 ≤ length (spread (S·Store .bytes (now (store .entry)))))) ⌝ }
 {
@@ -53,7 +58,14 @@ fn aim(working: &mut [u8], target: usize) -> u8
 }
 
 /// So many arcs of a state, from a place on: the sum of their targets' keys, and the place behind them.
-pub fn read_arcs<O: Output, S: Store>(store: &S, place: usize, index: usize, state: usize, count: u32, working: &mut [u8]) -> Result<(u32, usize), LoadRefusal>
+pub fn read_arcs<O: Output, S: Store>(
+    store: &S,
+    place: usize,
+    index: usize,
+    state: usize,
+    count: u32,
+    working: &mut [u8],
+) -> Result<(u32, usize), LoadRefusal>
     requires within { ⌜ index < 2 ^ 32 ⌝ ∗ ⌜ state < 2 ^ 16 ⌝ ∗ ⌜ state < length (now working) ⌝ ∗ ⌜ count ≤ 256 ⌝ }
     requires inside { ⌜ place < 2 ^ 32 ⌝ ∗ ⌜ place ≤ length (spread (S·Store .bytes (now store))) ⌝ }
     requires there { ⌜ ((t : ℕ) → t < state → There (O·Output .kind) (spread (S·Store .bytes (now store))) index t) ⌝ }

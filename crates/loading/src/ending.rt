@@ -17,7 +17,13 @@ use outputs::output::Output;
 use stores::Store;
 
 /// Passes on if each of so many states is marked as some arc's target.
-fn pass_targets<O: Output, S: Store>(store: &S, place: usize, index: usize, states: usize, working: &[u8]) -> Result<usize, LoadRefusal>
+fn pass_targets<O: Output, S: Store>(
+    store: &S,
+    place: usize,
+    index: usize,
+    states: usize,
+    working: &[u8],
+) -> Result<usize, LoadRefusal>
     requires within { ⌜ index < 2 ^ 32 ⌝ ∗ ⌜ states < 2 ^ 16 ⌝ ∗ ⌜ states ≤ length (now working) ⌝ }
     requires there { ⌜ ((t : ℕ) → t < states → There (O·Output .kind) (spread (S·Store .bytes (now store))) index t) ⌝ }
     ensures passes { λ r. ⌜ Passes (all-marked (O·Output .kind) (spread (S·Store .bytes (now (store .entry)))) index (now (working .entry)) 0 states place) r ⌝ }
@@ -48,7 +54,13 @@ fn pass_filling<S: Store>(store: &S, used: usize) -> Result<usize, LoadRefusal>
 }
 
 /// Passes what is behind the last record of so many arcs, and gives the place behind the image.
-pub fn pass_ending<O: Output, S: Store>(store: &S, place: usize, head: &Head<O>, arcs: u32, working: &[u8]) -> Result<usize, LoadRefusal>
+pub fn pass_ending<O: Output, S: Store>(
+    store: &S,
+    place: usize,
+    head: &Head<O>,
+    arcs: u32,
+    working: &[u8],
+) -> Result<usize, LoadRefusal>
     requires inside { ⌜ place < 2 ^ 32 ⌝ ∗ ⌜ place ≤ length (spread (S·Store .bytes (now store))) ⌝ }
     requires within { ⌜ now head .index < 2 ^ 32 ⌝ ∗ ⌜ 0 < now head .states ⌝ ∗ ⌜ now head .states < 2 ^ 16 ⌝ ∗ ⌜ now head .states ≤ length (now working) ⌝ }
     requires there { ⌜ ((t : ℕ) → t < now head .states → There (O·Output .kind) (spread (S·Store .bytes (now store))) (now head .index) t) ⌝ }

@@ -27,7 +27,11 @@ pub struct Head<O: Copy> {
 }
 
 /// The head at a place, for so many working bytes, and the place behind it.
-pub fn read_head<O: Output, S: Store>(store: &S, place: usize, working: usize) -> Result<(Head<O>, usize), LoadRefusal>
+pub fn read_head<O: Output, S: Store>(
+    store: &S,
+    place: usize,
+    working: usize,
+) -> Result<(Head<O>, usize), LoadRefusal>
     ensures answers { λ r. ⌜ Answers (λ h x. head-of (O·Output .meaning) h ≡ x) (head-step (O·Output .kind) (spread (S·Store .bytes (now (store .entry)))) working place) r ⌝ }
     ensures within { λ r. ⌜ made r (λ v. (0 < v .0 .states) × (v .0 .states ≤ working) × (v .0 .states < 2 ^ 16) × (v .0 .index ≡ v .1) × (v .1 ≤ length (spread (S·Store .bytes (now (store .entry))))) × (v .1 < 2 ^ 32)) ⌝ }
 {
@@ -53,11 +57,26 @@ pub fn read_head<O: Output, S: Store>(store: &S, place: usize, working: usize) -
         return Err(LoadRefusal::Working(states_place));
     }
     let (start_output, index) = read_output::<O, S>(store, output_place)?;
-    Ok((Head { states, arcs_place, arcs, keys_place, keys, start_output, index }, index))
+    Ok((
+        Head {
+            states,
+            arcs_place,
+            arcs,
+            keys_place,
+            keys,
+            start_output,
+            index,
+        },
+        index,
+    ))
 }
 
 /// Passes the index of so many states, entry by entry, and gives the place behind it.
-pub fn pass_entries<O: Output, S: Store>(store: &S, index: usize, states: usize) -> Result<usize, LoadRefusal>
+pub fn pass_entries<O: Output, S: Store>(
+    store: &S,
+    index: usize,
+    states: usize,
+) -> Result<usize, LoadRefusal>
     requires { ⌜ index < 2 ^ 32 ⌝ ∗ ⌜ index ≤ length (spread (S·Store .bytes (now store))) ⌝ }
     ensures passes { λ r. ⌜ Passes (entries (O·Output .kind) (spread (S·Store .bytes (now (store .entry)))) states index) r ⌝ }
     ensures within { λ r. ⌜ made r (λ p. (p ≡ index + 32 * states) × (p ≤ length (spread (S·Store .bytes (now (store .entry))))) × (p < 2 ^ 32)) ⌝ }

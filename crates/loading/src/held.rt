@@ -14,12 +14,11 @@ pub use taking::load;
 #[derive(Drop)]
 pub struct Loaded<O, S> {
     store: S,
-    /// How many states there are; the last is the start.
-    states: usize,
+    /// The start state, which is the last.
+    start: u16,
     /// Where the index begins.
-    index: usize,
+    index: u32,
     start_output: O,
-    ghost ok: { (0 < states) × (states < 2 ^ 16) × (index < 2 ^ 32) },
 }
 
 impl<O: Output, S: Store> Loaded<O, S> {
@@ -29,12 +28,12 @@ impl<O: Output, S: Store> Loaded<O, S> {
         &self.store
     }
 
-    /// How many states there are, 1 to 65,535; the last is the start.
-    pub fn states(&self) -> usize
-        ensures count { λ r. ⌜ r ≡ now (self .entry) .states ⌝ }
-        ensures within { λ r. ⌜ 0 < r ⌝ ∗ ⌜ r < 2 ^ 16 ⌝ }
+    /// The start state, which is the last.
+    pub fn start(&self) -> usize
+        ensures state { λ r. ⌜ r ≡ now (self .entry) .start ⌝ }
+        ensures within { λ r. ⌜ r < 2 ^ 16 ⌝ }
     {
-        self.states
+        usize::from(self.start)
     }
 
     /// The bit place of the index.
@@ -42,7 +41,7 @@ impl<O: Output, S: Store> Loaded<O, S> {
         ensures place { λ r. ⌜ r ≡ now (self .entry) .index ⌝ }
         ensures within { λ r. ⌜ r < 2 ^ 32 ⌝ }
     {
-        self.index
+        self.index as usize
     }
 
     pub fn start_output(&self) -> O

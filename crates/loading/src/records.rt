@@ -38,7 +38,13 @@ fn is_misshapen(count: u32, flag: u32) -> bool
 }
 
 /// The record of a state at a place: how many arcs it has, and the place behind it.
-fn read_record<O: Output, S: Store>(store: &S, place: usize, index: usize, state: usize, working: &mut [u8]) -> Result<(u32, usize), LoadRefusal>
+fn read_record<O: Output, S: Store>(
+    store: &S,
+    place: usize,
+    index: usize,
+    state: usize,
+    working: &mut [u8],
+) -> Result<(u32, usize), LoadRefusal>
     requires within { ⌜ index < 2 ^ 32 ⌝ ∗ ⌜ state < 2 ^ 16 ⌝ ∗ ⌜ state < length (now working) ⌝ ∗ ⌜ place < 2 ^ 32 ⌝ ∗ ⌜ entry-place (O·Output .kind) (spread (S·Store .bytes (now store))) index state + 32 ≤ length (spread (S·Store .bytes (now store))) ⌝ }
     requires there { ⌜ ((t : ℕ) → t < state → There (O·Output .kind) (spread (S·Store .bytes (now store))) index t) ⌝ }
     ensures answers { λ r. ⌜ Answers (Record-read state (now (working .entry)) (now (working .exit))) (record-at (O·Output .kind) (spread (S·Store .bytes (now (store .entry)))) index state place) r ⌝ }
@@ -62,7 +68,13 @@ fn read_record<O: Output, S: Store>(store: &S, place: usize, index: usize, state
 }
 
 /// The records of so many states, from a place on: how many arcs they have, and the place behind them.
-pub fn read_records<O: Output, S: Store>(store: &S, place: usize, index: usize, states: usize, working: &mut [u8]) -> Result<(u32, usize), LoadRefusal>
+pub fn read_records<O: Output, S: Store>(
+    store: &S,
+    place: usize,
+    index: usize,
+    states: usize,
+    working: &mut [u8],
+) -> Result<(u32, usize), LoadRefusal>
     requires inside { ⌜ place < 2 ^ 32 ⌝ ∗ ⌜ place ≤ length (spread (S·Store .bytes (now store))) ⌝ }
     requires within { ⌜ index < 2 ^ 32 ⌝ ∗ ⌜ states < 2 ^ 16 ⌝ ∗ ⌜ states ≤ length (now working) ⌝ ∗ ⌜ entry-place (O·Output .kind) (spread (S·Store .bytes (now store))) index states ≤ length (spread (S·Store .bytes (now store))) ⌝ }
     ensures answers { λ r. ⌜ Answers (Records-read states (now (working .exit))) (records-step (O·Output .kind) (spread (S·Store .bytes (now (store .entry)))) index 0 states [] place) r ⌝ }

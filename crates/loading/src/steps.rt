@@ -9,7 +9,6 @@ ghost use Rattle.images.specs.Loads.{entry-place, record-place, keys-at};
 ghost use Rattle.loading.specs.Index.{There};
 ghost use Rattle.loading.specs.Refusals.{unread-at};
 ghost use Rattle.loading.specs.Answers.{Answers};
-
 use crate::refusal::LoadRefusal;
 use fields::Cut;
 use fields::StoreBits;
@@ -21,7 +20,11 @@ use stores::Refusal;
 use stores::Store;
 
 /// The field of `width` bits at a place, and the place behind it.
-pub fn read_field<S: Store>(store: &S, place: usize, width: usize) -> Result<(u32, usize), LoadRefusal>
+pub fn read_field<S: Store>(
+    store: &S,
+    place: usize,
+    width: usize,
+) -> Result<(u32, usize), LoadRefusal>
     requires { ⌜ 0 < width ⌝ ∗ ⌜ width ≤ 32 ⌝ }
     ensures answers { λ r. ⌜ Answers (λ v x. v ≡ x) (field-step (spread (S·Store .bytes (now (store .entry)))) width place) r ⌝ }
     ensures within { λ r. ⌜ made r (λ v. (v .0 < 2 ^ width) × (v .1 ≡ place + width) × (place + width ≤ length (spread (S·Store .bytes (now (store .entry))))) × (v .1 < 2 ^ 32)) ⌝ }

@@ -16,7 +16,10 @@ use outputs::output::Output;
 use stores::Store;
 
 /// The image at a store's first byte: its head, and the place behind it. The working bytes are left as they come.
-pub fn read_whole<O: Output, S: Store>(store: &S, working: &mut [u8]) -> Result<(Head<O>, usize), LoadRefusal>
+pub fn read_whole<O: Output, S: Store>(
+    store: &S,
+    working: &mut [u8],
+) -> Result<(Head<O>, usize), LoadRefusal>
     ensures answers { λ r. ⌜ Answers (Whole-read (O·Output .kind) (O·Output .meaning) (spread (S·Store .bytes (now (store .entry)))) (length (now (working .entry)))) (whole-step (O·Output .kind) (spread (S·Store .bytes (now (store .entry)))) (length (now (working .entry))) 0) r ⌝ }
     ensures within { λ r. ⌜ made r (λ v. (0 < v .0 .states) × (v .0 .states < 2 ^ 16) × (v .0 .index < 2 ^ 32)) ⌝ }
 {

@@ -1,5 +1,5 @@
 -- An output in front of all that follows a record, where the joins are storable, and where it is empty. Assumes the laws of the kind.
-use mathlib.Core.Path.{_≡_, refl, sym, ap, subst, _∙_}
+use mathlib.Core.Path.{_≡_, refl, ap, _∙_}
 use mathlib.Core.Bool.{Bool, true, false, cond}
 use mathlib.Core.List.{List, [], _∷_, map}
 use mathlib.Core.Option.{Option, none, some}
@@ -38,9 +38,9 @@ module _ (k : Kind) (x : k .Ideal) where
   arcs-joined : (es : List (Edge (k .Ideal))) → Each (λ arc. k .storable (k .join x (arc .output)) ≡ true) es → map (output-under (join-or-empty k x)) es ≡ map (push-arc k x) es
   arcs-joined [] j = refl
   arcs-joined (e ∷ es) j =
-    let a = cond-true (k .storable (k .join x (e .output))) (k .join x (e .output)) (k .empty) (j .0) in
-    let b = arcs-joined es (j .1) in
-    λ i. record { byte = e .byte; target = e .target; output = a i } ∷ b i
+      let a = cond-true (k .storable (k .join x (e .output))) (k .join x (e .output)) (k .empty) (j .0) in
+      let b = arcs-joined es (j .1) in
+      λ i. record { byte = e .byte; target = e .target; output = a i } ∷ b i
 
   record-joined : (o : Open (k .Ideal)) → Joins k x o → outputs-under (join-or-empty k x) o ≡ push k x o
   record-joined o j = let a = end-joined (o .end) (j .0) in let b = arcs-joined (o .arcs) (j .1) in λ i. record { end = a i; arcs = b i; since = o .since }

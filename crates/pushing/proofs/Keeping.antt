@@ -26,5 +26,5 @@ module _ {O : Type 0} where
 
   pub shape-started : (b a : Core O) (x : O) → Same-shape (started b x) a → Same-shape b a
   shape-started b a x p =
-    let w = p .keeps in
-    record { keeps = record { sound = w .sound; states = w .states; arcs = w .arcs; slots = w .slots; staterooms = w .staterooms; arcrooms = w .arcrooms }; pairs = p .pairs; openings = p .openings; arcs = p .arcs }
+      let w = p .keeps in
+      record { keeps = record { sound = w .sound; states = w .states; arcs = w .arcs; slots = w .slots; staterooms = w .staterooms; arcrooms = w .arcrooms }; pairs = p .pairs; openings = p .openings; arcs = p .arcs }

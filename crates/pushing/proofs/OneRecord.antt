@@ -1,12 +1,12 @@
 -- One open record changes with its arcs, and the others stay. Assumes that the records' arcs lie one after the other.
-use mathlib.Core.Path.{_≡_, refl, sym, ap, subst, _∙_}
+use mathlib.Core.Path.{_≡_, refl, sym, ap, _∙_}
 use mathlib.Core.List.{List, [], _∷_, _++_, map, reverse, reverse-cons}
 use Prim.Native.Nat.{ℕ, zero, suc, _+_, _-_, _<_, _≤_}
 use native.Mathlib.Omega.{arith}
 use lib.ListN.{length, getD, set, take, drop}
 use Rattle.std.proofs.shelf.Lists.{length-map, length-reverse, getD-map, getD-reverse, set-getD, drop-set-lt}
 use Rattle.machines.specs.Machines.{Arc as Edge}
-use Rattle.construction.specs.Records.{Open, blank}
+use Rattle.construction.specs.Records.{Open}
 use Rattle.records.specs.declared.record.State.{State}
 use Rattle.records.specs.Shape.{Led, Laid}
 use Rattle.records.specs.Holding.{end-of, open-record}
@@ -34,11 +34,11 @@ module _ {X : Type 0} (f : X → X) where
   pub alter-reverse : (xs : List X) (i d : ℕ) → i + d + 1 ≡ length xs → reverse (alter i f xs) ≡ alter d f (reverse xs)
   alter-reverse [] i d h = refl
   alter-reverse (x ∷ xs) zero d h =
-    let n : d ≡ length (reverse xs) = omega (arith, length-reverse xs) in
-    reverse-cons (f x) xs ∙ sym (alter-end d (reverse xs) x n) ∙ ap (alter d f) (sym (reverse-cons x xs))
+      let n : d ≡ length (reverse xs) = omega (arith, length-reverse xs) in
+      reverse-cons (f x) xs ∙ sym (alter-end d (reverse xs) x n) ∙ ap (alter d f) (sym (reverse-cons x xs))
   alter-reverse (x ∷ xs) (suc i) d h =
-    let n : d < length (reverse xs) = omega (arith, length-reverse xs) in
-    reverse-cons x (alter i f xs) ∙ ap (λ (r : List X). r ++ (x ∷ [])) (alter-reverse xs i d (omega arith)) ∙ sym (alter-left d (reverse xs) (x ∷ []) n) ∙ ap (alter d f) (sym (reverse-cons x xs))
+      let n : d < length (reverse xs) = omega (arith, length-reverse xs) in
+      reverse-cons x (alter i f xs) ∙ ap (λ (r : List X). r ++ (x ∷ [])) (alter-reverse xs i d (omega arith)) ∙ sym (alter-left d (reverse xs) (x ∷ []) n) ∙ ap (alter d f) (sym (reverse-cons x xs))
 
 -- the open record at a depth, as it lies in memory
 pub record-there : {O I : Type 0} (mean : O → I) (es : List (Edge I)) (ss : List (State O)) (d : ℕ) (x : State O) (o : Open I) → d < length ss → x ≡ getD ss (length ss - 1 - d) x → getD (reverse (map (open-record mean es) ss)) d o ≡ open-record mean es x
@@ -49,24 +49,23 @@ record-there {O} {I} mean es ss d x o h e =
     r ∙ ap (λ (m : ℕ). getD os (m - 1 - d) o) n ∙ getD-map (open-record mean es) ss (length ss - 1 - d) x o (omega arith) ∙ ap (open-record mean es) (sym e)
 
 module _ {O I : Type 0} (mean : O → I) (es fs : List (Edge I)) (x y : State O) (f : Open I → Open I)
-  (before : (s c : ℕ) → s + c ≤ x .first → take c (drop s fs) ≡ take c (drop s es))
-  (here : open-record mean fs y ≡ f (open-record mean es x)) where
-
+    (before : (s c : ℕ) → s + c ≤ x .first → take c (drop s fs) ≡ take c (drop s es))
+    (here : open-record mean fs y ≡ f (open-record mean es x)) where
   record-before : (s : State O) → s .first + s .count ≤ x .first → open-record mean fs s ≡ open-record mean es s
   record-before s h = λ i. record { end = end-of mean s; arcs = before (s .first) (s .count) h i; since = s .keys }
 
   pub records-before : (n : ℕ) (ss : List (State O)) → Led n ss → n ≤ x .first → map (open-record mean fs) ss ≡ map (open-record mean es) ss
   records-before n [] l h = refl
   records-before n (s ∷ ss) l h =
-    let a = record-before s (omega (arith, l .0)) in
-    let b = records-before (s .first) ss (l .2) (omega (arith, l .0)) in
-    λ i. a i ∷ b i
+      let a = record-before s (omega (arith, l .0)) in
+      let b = records-before (s .first) ss (l .2) (omega (arith, l .0)) in
+      λ i. a i ∷ b i
 
   record-here : (s : State O) (ss : List (State O)) → Led (s .first) ss → x ≡ s → map (open-record mean fs) (y ∷ ss) ≡ alter 0 f (map (open-record mean es) (s ∷ ss))
   record-here s ss l e =
-    let b = records-before (s .first) ss l (let w = ap (λ (z : State O). z .first) e in omega arith) in
-    let a : open-record mean fs y ≡ f (open-record mean es s) = here ∙ ap (λ (z : State O). f (open-record mean es z)) e in
-    λ i. a i ∷ b i
+      let b = records-before (s .first) ss l (let w = ap (λ (z : State O). z .first) e in omega arith) in
+      let a : open-record mean fs y ≡ f (open-record mean es s) = here ∙ ap (λ (z : State O). f (open-record mean es z)) e in
+      λ i. a i ∷ b i
 
   -- the newest record is altered: its arcs may be more then
   pub records-newest : (n : ℕ) (ss : List (State O)) → Laid n ss → 0 < length ss → x ≡ getD ss 0 x → map (open-record mean fs) (set ss 0 y) ≡ alter 0 f (map (open-record mean es) ss)
@@ -81,24 +80,24 @@ module _ {O I : Type 0} (mean : O → I) (es fs : List (Edge I)) (x y : State O)
     records-led n [] i l h e = absurd (omega arith)
     records-led n (s ∷ ss) zero l h e = record-here s ss (l .2) e
     records-led n (s ∷ ss) (suc i) l h e =
-      let r = led-at (s .first) ss i x (omega arith) (l .2) e in
-      let a = record-after s (omega (arith, r .0)) in
-      let b = records-led (s .first) ss i (l .2) (omega arith) e in
-      λ j. a j ∷ b j
+        let r = led-at (s .first) ss i x (omega arith) (l .2) e in
+        let a = record-after s (omega (arith, r .0)) in
+        let b = records-led (s .first) ss i (l .2) (omega arith) e in
+        λ j. a j ∷ b j
 
     pub records-laid : (n : ℕ) (ss : List (State O)) (i : ℕ) → Laid n ss → i < length ss → x ≡ getD ss i x → map (open-record mean fs) (set ss i y) ≡ alter i f (map (open-record mean es) ss)
     records-laid n [] i l h e = absurd (omega arith)
     records-laid n (s ∷ ss) zero l h e = record-here s ss (l .1) e
     records-laid n (s ∷ ss) (suc i) l h e =
-      let r = led-at (s .first) ss i x (omega arith) (l .1) e in
-      let a = record-after s (omega (arith, r .0)) in
-      let b = records-led (s .first) ss i (l .1) (omega arith) e in
-      λ j. a j ∷ b j
+        let r = led-at (s .first) ss i x (omega arith) (l .1) e in
+        let a = record-after s (omega (arith, r .0)) in
+        let b = records-led (s .first) ss i (l .1) (omega arith) e in
+        λ j. a j ∷ b j
 
     -- the record at a depth is altered
     pub records-altered : (n : ℕ) (ss : List (State O)) (d : ℕ) → Laid n ss → d < length ss → x ≡ getD ss (length ss - 1 - d) x → reverse (map (open-record mean fs) (set ss (length ss - 1 - d) y)) ≡ alter d f (reverse (map (open-record mean es) ss))
     records-altered n ss d l h e =
-      ap reverse (records-laid n ss (length ss - 1 - d) l (omega arith) e) ∙ alter-reverse f (map (open-record mean es) ss) (length ss - 1 - d) d (let m = length-map ss (open-record mean es) in omega arith)
+        ap reverse (records-laid n ss (length ss - 1 - d) l (omega arith) e) ∙ alter-reverse f (map (open-record mean es) ss) (length ss - 1 - d) d (let m = length-map ss (open-record mean es) in omega arith)
 
 -- all outputs of the record at a depth are under f
 pub records-under : {O I : Type 0} (mean : O → I) (f : I → I) (es : List (Edge I)) (x y : State O) → End-under mean f x y → (n : ℕ) (ss : List (State O)) (d : ℕ) → Laid n ss → d < length ss → x ≡ getD ss (length ss - 1 - d) x → reverse (map (open-record mean (alter-range (output-under f) (x .first) (x .first + x .count) es)) (set ss (length ss - 1 - d) y)) ≡ alter d (outputs-under f) (reverse (map (open-record mean es) ss))

@@ -1,15 +1,15 @@
 -- Pushing along records one by one does what pushing along all of them does. Assumes nothing.
 use mathlib.Core.Path.{_≡_, refl, sym, ap, subst, _∙_}
 use mathlib.Core.List.{List, [], _∷_}
-use Prim.Native.Nat.{ℕ, zero, suc, _+_, _<_, _≤_}
+use Prim.Native.Nat.{ℕ, zero, suc, _+_, _<_}
 use native.Mathlib.Omega.{arith}
 use native.Mathlib.Numerals.{add-one}
 use lib.ListN.{length, getD}
 use Rattle.outputs.specs.Kinds.{Kind}
 use Rattle.construction.specs.Records.{Open, blank}
-use Rattle.construction.specs.Steps.{push, push-down}
+use Rattle.construction.specs.Steps.{push}
 use Rattle.construction.specs.Building.{push-along}
-use Rattle.construction.specs.Theorems.{Joins, Push-storable, Along-storable}
+use Rattle.construction.specs.Theorems.{Joins, Along-storable}
 use Rattle.pushing.specs.Altering.{alter, At}
 use Rattle.pushing.specs.Pushing.{whole, shared, stepped}
 
@@ -89,4 +89,4 @@ module _ (k : Kind) where
 
     pub storable-more : (d : ℕ) (os : Opens) (c r : k .Ideal) (now : Opens) → d + 1 < length os → c ≡ carried (at-depth d os) → r ≡ remains (at-depth d os) → now ≡ alter d (stepped k carry left) os → Storable-from d carry left os → Storable-from (d + 1) c r now
     storable-more d os c r now h p q e s =
-      rw add-one (subst (λ (z : k .Ideal × k .Ideal × Opens). Storable-from (suc d) (z .0) (z .1) (z .2)) (sym (λ i. (p i, q i, e i))) (step-storable d os (omega arith) s))
+        rw add-one (subst (λ (z : k .Ideal × k .Ideal × Opens). Storable-from (suc d) (z .0) (z .1) (z .2)) (sym (λ i. (p i, q i, e i))) (step-storable d os (omega arith) s))

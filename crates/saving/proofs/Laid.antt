@@ -1,23 +1,23 @@
 -- What the shape of rows says of their states, arcs and records. Assumes that outputs are storable.
-use mathlib.Core.Path.{_≡_, refl, sym, ap, ap₂, _∙_}
+use mathlib.Core.Path.{_≡_, refl, sym, ap, _∙_}
 use mathlib.Core.Bool.{Bool, true, false, cond}
-use mathlib.Core.List.{List, [], _∷_, _++_, map}
-use mathlib.Core.Option.{Option, none, some}
+use mathlib.Core.List.{List, [], _∷_, map}
+use mathlib.Core.Option.{none, some}
 use Prim.Native.Nat.{ℕ, zero, suc, _+_, _-_, _*_, _^_, _<_, _≤_}
 use native.Mathlib.Omega.{arith}
-use lib.ListN.{length, take, drop, length-take, length-drop, length-append}
+use lib.ListN.{length, take, drop, length-take, length-drop}
 use mir.Val.{boolByte}
 use denote.Ref.{now}
 use Rattle.std.proofs.shelf.Lists.{length-map}
 use Rattle.outputs.specs.Kinds.{Kind, Laws}
 use Rattle.machines.specs.Lists.{Each}
-use Rattle.machines.specs.Machines.{Arc as Edge, State as Node, Machine, count-arcs, end-flag}
+use Rattle.machines.specs.Machines.{Arc as Edge, count-arcs, end-flag}
 use Rattle.images.specs.Images.{records-bits, head-bits, image-bits, in-turn}
 use Rattle.images.specs.Fits.{End-storable}
 use Rattle.images.proofs.ImageLengths.{Storable-state, records-short, length-head, length-image}
 use Rattle.records.specs.declared.record.Arc.{Arc}
 use Rattle.records.specs.declared.record.State.{State}
-use Rattle.records.specs.Holding.{arc-of, arcs-of, end-of, closed-state}
+use Rattle.records.specs.Holding.{arc-of, arcs-of, closed-state}
 use Rattle.records.specs.Shape.{Packed}
 use Rattle.saving.specs.declared.rows.Rows.{Rows}
 use Rattle.saving.specs.Standing.{Shaped, counts-of, record-of, records-of, states-of, machine-of}
@@ -35,8 +35,14 @@ packed-within a n (s ∷ ss) p = omega (arith, p .0, packed-within (s .first) n 
 pub packed-arcs : {O I : Type 0} (mean : O → I) (es : List (Edge I)) (a n : ℕ) (ss : List (State O)) → Packed a n ss → n ≤ length es → a + count-arcs (map (closed-state mean es) ss) ≡ n
 packed-arcs mean es a n [] p h = omega (arith, p)
 packed-arcs mean es a n (s ∷ ss) p h =
-    omega (arith, p .0, packed-within (s .first) n ss (p .1), packed-arcs mean es (s .first) n ss (p .1) h,
-      length-take (s .count) (drop (length es - s .first) es), length-drop (length es - s .first) es)
+    omega (
+      arith,
+      p .0,
+      packed-within (s .first) n ss (p .1),
+      packed-arcs mean es (s .first) n ss (p .1) h,
+      length-take (s .count) (drop (length es - s .first) es),
+      length-drop (length es - s .first) es,
+    )
 
 each-take : {A : Type 0} (Q : A → Type 0) (n : ℕ) (xs : List A) → Each Q xs → Each Q (take n xs)
 each-take Q zero xs h = tt
@@ -78,23 +84,29 @@ module _ (k : Kind) {O : Type 0} (mean : O → k .Ideal) where
       pub image-length : length (image-bits k (machine-of k mean rows) (counts-of rows) (rows .keys)) ≡
           length (head-bits k (machine-of k mean rows) (rows .keys)) + 32 * length (now (rows .states)) + length (in-turn (records-of k mean (now (rows .arcs)) (now (rows .states))))
       image-length =
-          omega (arith,
+          omega (
+            arith,
             length-image k laws (machine-of k mean rows) (counts-of rows) (rows .keys) (length-map (now (rows .states)) (λ s. s .keys) ∙ sym (length-map (now (rows .states)) (closed-state mean (arcs-of mean (now (rows .arcs)))))),
             length-map (now (rows .states)) (closed-state mean (arcs-of mean (now (rows .arcs)))),
-            ap (λ rs. length (in-turn rs)) (records-same (now (rows .arcs)) (now (rows .states))))
+            ap (λ rs. length (in-turn rs)) (records-same (now (rows .arcs)) (now (rows .states))),
+          )
 
       -- so every place fits an index entry
       pub image-small : length (image-bits k (machine-of k mean rows) (counts-of rows) (rows .keys)) < 2 ^ 26
       image-small =
           let ss = states-of k mean rows in
-          omega (arith,
+          omega (
+            arith,
             image-length,
             length-head k laws (machine-of k mean rows) (rows .keys),
             laws .code-short (mean (rows .start)) (stored (rows .start)),
             records-short k laws ss (counts-of rows) (states-stored (now (rows .arcs)) (now (rows .states))),
             ap (λ rs. length (in-turn rs)) (records-same (now (rows .arcs)) (now (rows .states))),
             length-map (now (rows .states)) (closed-state mean (arcs-of mean (now (rows .arcs)))),
-            arcs-counted rows shaped, shaped .few-states, shaped .few-arcs)
+            arcs-counted rows shaped,
+            shaped .few-states,
+            shaped .few-arcs,
+          )
 
       pub head-small : length (head-bits k (machine-of k mean rows) (rows .keys)) < 2 ^ 26
       head-small = omega (arith, image-length, image-small)

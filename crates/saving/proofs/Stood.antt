@@ -5,7 +5,6 @@ use Prim.Native.Nat.{ℕ, _-_}
 use lib.ListN.{length}
 use Rattle.std.specs.declared.result.Result.{Result}
 use Rattle.outputs.specs.Kinds.{Kind}
-use Rattle.machines.specs.Machines.{Machine}
 use Rattle.machines.specs.Pairs.{Pairs}
 use Rattle.machines.specs.Minimal.{minimal, key-counts}
 use Rattle.images.specs.Images.{image, image-of}
@@ -23,9 +22,9 @@ module _ {X : Type 0} (bytes : X → List ℕ) (room : X → ℕ) (k : Kind) {O 
       (P : Pairs (k .Ideal)) → Stands-for k mean P rows → Saves bytes room (image k P) (length P) store store′ r
   saves-pairs store store′ r saves P stands =
       let same : image-of k (machine-of k mean rows) (counts-of rows) (rows .keys) ≡ image k P =
-          ap₂ (λ m ns. image-of k m ns (rows .keys)) (stands .machine) (stands .counts) ∙ ap₂ (λ m n. image-of k m (key-counts k P) n) (λ i. minimal k P) (stands .pairs) in
+      ap₂ (λ m ns. image-of k m ns (rows .keys)) (stands .machine) (stands .counts) ∙ ap₂ (λ m n. image-of k m (key-counts k P) n) (λ i. minimal k P) (stands .pairs) in
       subst (λ n. Saves bytes room (image k P) n store store′ r) (stands .pairs)
-        (subst (λ bs. Saves bytes room bs (rows .keys) store store′ r) same saves)
+      (subst (λ bs. Saves bytes room bs (rows .keys) store store′ r) same saves)
 
 module _ (k : Kind) {O : Type 0} (mean : O → k .Ideal) (rows : Rows O) where
   pub sealed-stands : (held : Held (k .Ideal)) (P : Pairs (k .Ideal)) →

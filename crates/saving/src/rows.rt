@@ -29,5 +29,10 @@ pub fn closed_rows<'a, 'b, O: Output>(core: &'b Core<'a, O>) -> Rows<'b, O>
     ensures start { λ r. ⌜ r .start ≡ now (core .entry) .start ⌝ }
     ensures keys { λ r. ⌜ r .keys ≡ now (core .entry) .pairs ⌝ }
 {
-    Rows { states: core.states.below(), arcs: core.arcs.above(), start: core.start, keys: core.pairs }
+    Rows {
+        states: core.states.below(),
+        arcs: core.arcs.above(),
+        start: core.start,
+        keys: core.pairs,
+    }
 }

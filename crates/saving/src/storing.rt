@@ -40,7 +40,12 @@ fn append_image<'b, O: Output, S: Store>(rows: &Rows<'b, O>, store: &mut S)
 }
 
 /// Appends the image if there is a pair, and so much to spare.
-fn append_checked<'b, O: Output, S: Store>(rows: &Rows<'b, O>, store: &mut S, to: Saved, spare: usize) -> Result<Saved, SaveRefusal>
+fn append_checked<'b, O: Output, S: Store>(
+    rows: &Rows<'b, O>,
+    store: &mut S,
+    to: Saved,
+    spare: usize,
+) -> Result<Saved, SaveRefusal>
     requires shaped { ⌜ Shaped (now rows) ⌝ }
     requires place { ⌜ to .place ≡ length (S·Store .bytes (now store)) ⌝ }
     requires size { ⌜ to .length ≡ (length (bits-of (O·Output .kind) (O·Output .meaning) (now rows)) + 7) / 8 ⌝ }
@@ -63,7 +68,10 @@ fn append_checked<'b, O: Output, S: Store>(rows: &Rows<'b, O>, store: &mut S, to
 /// Appends the image to a store, and tells where it went.
 ///
 /// It refuses a dictionary without a pair, and else a store with less room than the image needs. A refusal changes nothing.
-pub fn save<'b, O: Output, S: Store>(rows: &Rows<'b, O>, store: &mut S) -> Result<Saved, SaveRefusal>
+pub fn save<'b, O: Output, S: Store>(
+    rows: &Rows<'b, O>,
+    store: &mut S,
+) -> Result<Saved, SaveRefusal>
     requires shaped { ⌜ Shaped (now rows) ⌝ }
     ensures image { λ r. ⌜ Saves (S·Store .bytes) (S·Store .room) (image-of (O·Output .kind) (machine-of (O·Output .kind) (O·Output .meaning) (now (rows .entry))) (counts-of (now (rows .entry))) (now (rows .entry) .keys)) (now (rows .entry) .keys) (now (store .entry)) (now (store .exit)) r ⌝ }
     ensures pairs { λ r. ⌜ ((P : _) → Stands-for (O·Output .kind) (O·Output .meaning) P (now (rows .entry)) → Saves (S·Store .bytes) (S·Store .room) (image (O·Output .kind) P) (length P) (now (store .entry)) (now (store .exit)) r) ⌝ }

@@ -25,11 +25,12 @@ returns-then-highs-gt0 g c =
     let gone : openings a ≡ 0 = omega (arith, p .opens, h .opens) in
     let empty : opened mean a ≡ [] = nil-from-length (opened mean a) (count-opened mean a ∙ gone) in
     let one : reverse (opened mean m) ≡ s .top ∷ [] = ap reverse (s .was ∙ ap (λ (os : List (Open (k .Ideal))). s .top ∷ os) empty) in
-    let last = sealed-at-last k (b .pairs) (mean (b .start)) (closed mean b) (reverse (opened mean b)) (held mean m) (s .top) some-open (h .holds) one in
     record {
       sound = p .sound;
       opens = gone;
-      holds = (λ i. record { closed = s .closed i; open′ = reverse (empty i); start = mean (p .start i); pairs = p .pairs i }) ∙ last;
+      holds = λ reg.
+          let last = sealed-at-last k (b .pairs) (mean (b .start)) (closed mean b) (reverse (opened mean b)) (held mean m) (s .top) some-open (h .holds reg) one in
+          (λ i. record { closed = s .closed i; open′ = reverse (empty i); start = mean (p .start i); pairs = p .pairs i }) ∙ last;
     }
 
 pub returns-else-highs-gt0 : need.returns-else-highs-gt0
@@ -38,4 +39,4 @@ returns-else-highs-gt0 g c =
     let mean = g .O·Output .meaning in
     let b = c .args .core .now in
     let gone : openings b ≡ 0 = omega (arith, c .highs .ensures, c .if-highs-gt0 .left) in
-    record { sound = c .pre .sound; opens = gone; holds = sealed-empty k (b .pairs) (mean (b .start)) (closed mean b) (opened mean b) (count-opened mean b ∙ gone) }
+    record { sound = c .pre .sound; opens = gone; holds = λ reg. sealed-empty k (b .pairs) (mean (b .start)) (closed mean b) (opened mean b) (count-opened mean b ∙ gone) }

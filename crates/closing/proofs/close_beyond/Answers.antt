@@ -32,7 +32,6 @@ loop-again g c =
     let q = c .close-top-number .result in
     let inv = c .loop .inv in
     let p = c .close-top-number .ensures .popped in
-    let t = c .close-top-number .ensures .closes in
     let l = c .lead-to .ensures in
     let n : length (opened mean m) ≡ openings m = count-opened mean m in
     let deep : depth < length (opened mean m) = omega (arith, n, p .opens, inv .3, c .loop-test .taken, c .highs-end .ensures) in
@@ -40,12 +39,9 @@ loop-again g c =
     let st = l .start ∙ p .start in
     let pr = l .pairs ∙ p .pairs in
     λ i. record { closed = l .closed i; open′ = reverse (l .opened i); start = mean (st i); pairs = pr i } in
-    let was : held mean b ≡ hold k (b .pairs) (mean (b .start)) (closed mean b) (reverse (t .top ∷ opened mean m)) =
-    λ i. record { closed = closed mean b; open′ = reverse (t .was i); start = mean (b .start); pairs = b .pairs } in
-    let step = beyond-step k (b .pairs) (mean (b .start)) (closed mean b) depth (t .top) (opened mean m) q (closed mean m) deep (t .entered) in
     let states : closed-states mean a ≡ closed-states mean m = ap (λ (x : Closed (k .Ideal)). x .states) (l .closed) in (
       l .sound,
-      subst (λ (xs : List ℕ). Register dig xs (closed-states mean a)) (sym (l .slots)) (subst (Register dig (m .slots .now)) (sym states) (c .close-top-number .ensures .registered)),
+      λ reg. subst (λ (xs : List ℕ). Register dig xs (closed-states mean a)) (sym (l .slots)) (subst (Register dig (m .slots .now)) (sym states) (c .close-top-number .ensures .registered (inv .1 reg))),
       record {
         staterooms = l .within .staterooms ∙ p .within .staterooms ∙ inv .2 .staterooms;
         arcrooms = l .within .arcrooms ∙ p .within .arcrooms ∙ inv .2 .arcrooms;
@@ -53,7 +49,13 @@ loop-again g c =
         arcs = omega (arith, l .within .arcs, p .within .arcs, inv .2 .arcs);
       },
       omega (arith, l .opens, p .opens, inv .3),
-      ap (closed-beyond k depth) is ∙ step ∙ sym (ap (closed-beyond k depth) was) ∙ inv .4,
+      λ reg.
+          let t = c .close-top-number .ensures .closes (inv .1 reg) in
+          let was : held mean b ≡ hold k (b .pairs) (mean (b .start)) (closed mean b) (reverse (t .top ∷ opened mean m)) =
+          λ i. record { closed = closed mean b; open′ = reverse (t .was i); start = mean (b .start); pairs = b .pairs } in
+          let step = beyond-step k (b .pairs) (mean (b .start)) (closed mean b) depth (t .top) (opened mean m) q (closed mean m) deep (t .entered) in
+          ap (closed-beyond k depth) is ∙ step ∙ sym (ap (closed-beyond k depth) was) ∙ inv .4 reg,
+      l .pairs ∙ p .pairs ∙ inv .5,
     )
 
 pub returns : need.returns
@@ -69,5 +71,6 @@ returns g c =
       registered = inv .1;
       within = inv .2;
       opens = done;
-      holds = sym (beyond-none k (a .pairs) (mean (a .start)) (closed mean a) (c .args .depth) (opened mean a) (omega (arith, n, done))) ∙ inv .4;
+      pairs = inv .5;
+      holds = λ reg. sym (beyond-none k (a .pairs) (mean (a .start)) (closed mean a) (c .args .depth) (opened mean a) (omega (arith, n, done))) ∙ inv .4 reg;
     }

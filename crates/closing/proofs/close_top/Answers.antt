@@ -27,11 +27,12 @@ returns-in-Found g c =
     let told = c .in-Found .ensures tt in
     let n : length ts ≡ closings b = count-closed mean b in
     let top : newest (opened mean b) ≡ state-of (d .top) = ap newest (d .was) in
-    let there = number-found k (g .O·Output·met .lawful) (state-of (d .top)) (stored-top k mean (g .O·Output·met .stored) (lows (b .arcs)) (highs (b .states)) (d .top) _ (d .was)) ts q (stored-closed k mean (g .O·Output·met .stored) (highs (b .arcs)) (lows (b .states)))
-    (c .pre .registered .distinct) (omega (arith, told .0, n)) (sym top ∙ told .1) in
     let states : closed-states mean a ≡ ts = ap (λ (x : Closed (k .Ideal)). x .states) (d .closed) in
     record {
       popped = c .drop-top .ensures .popped;
-      closes = record { top = d .top; was = d .was; entered = enter-found k (b .pairs) (closed mean b) (d .top) q there ∙ (λ i. (q, sym (d .closed) i)) };
-      registered = subst (λ (xs : List ℕ). Register dig xs (closed-states mean a)) (sym (d .slots)) (subst (Register dig (b .slots .now)) (sym states) (c .pre .registered));
+      closes = λ reg.
+          let there = number-found k (g .O·Output·met .lawful) (state-of (d .top)) (stored-top k mean (g .O·Output·met .stored) (lows (b .arcs)) (highs (b .states)) (d .top) _ (d .was)) ts q (stored-closed k mean (g .O·Output·met .stored) (highs (b .arcs)) (lows (b .states)))
+          (reg .distinct) (omega (arith, told .0, n)) (sym top ∙ told .1) in
+          record { top = d .top; was = d .was; entered = enter-found k (b .pairs) (closed mean b) (d .top) q there ∙ (λ i. (q, sym (d .closed) i)) };
+      registered = λ reg. subst (λ (xs : List ℕ). Register dig xs (closed-states mean a)) (sym (d .slots)) (subst (Register dig (b .slots .now)) (sym states) reg);
     }

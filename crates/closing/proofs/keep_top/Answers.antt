@@ -56,12 +56,9 @@ returns g c =
     let wide : length slots′ ≡ length slots = ap length written ∙ length-set slots (c .args .slot) (number + 1) in
     let new : (h : ℕ) → Hole slots h (c .args .slot) → Entered h slots′ number = λ h o. e .entered h (subst (λ (xs : List ℕ). Hole xs h (c .args .slot)) (sym (s .slots)) o) in
     let kept : (h q : ℕ) → Entered h slots q → Entered h slots′ q = λ h q o. e .kept h q (subst (λ (xs : List ℕ). Entered h xs q) (sym (s .slots)) o) in
-    let more = register-more ts (state-of (s .top)) dig slots slots′ (c .args .slot) number all wide (c .pre .registered) missing new kept in
     let states : closed-states mean m ≡ ts ++ (state-of (s .top) ∷ []) = ap (λ (x : Closed (k .Ideal)). x .states) (s .closed) in
     let one : closings m ≡ closings b + 1 = sym (count-closed mean m) ∙ ap length states ∙ length-push ts (state-of (s .top)) ∙ ap (λ (j : ℕ). j + 1) n in
     let hole = c .pre .missing .hole in
-    let none-there = number-missing k (g .O·Output·met .lawful) (state-of (s .top)) (stored-top k mean (g .O·Output·met .stored) (lows (b .arcs)) (highs (b .states)) (s .top) _ (s .was)) ts (stored-closed k mean (g .O·Output·met .stored) (highs (b .arcs)) (lows (b .states)))
-    (λ q h e. other ts (state-of (s .top)) dig slots slots′ (c .args .slot) number all wide (c .pre .registered) missing new kept q h (sym e)) in
     record {
       popped = record {
         sound = record {
@@ -83,10 +80,13 @@ returns g c =
         pairs = p .pairs;
         start = p .start;
       };
-      closes = record {
-        top = s .top;
-        was = s .was;
-        entered = enter-new k (b .pairs) (closed mean b) (s .top) none-there ∙ (λ i. (sym all i, sym (s .closed) i));
-      };
-      registered = subst (Register dig slots′) (sym states) more;
+      closes = λ reg.
+          let none-there = number-missing k (g .O·Output·met .lawful) (state-of (s .top)) (stored-top k mean (g .O·Output·met .stored) (lows (b .arcs)) (highs (b .states)) (s .top) _ (s .was)) ts (stored-closed k mean (g .O·Output·met .stored) (highs (b .arcs)) (lows (b .states)))
+          (λ q h e. other ts (state-of (s .top)) dig slots slots′ (c .args .slot) number all wide reg missing new kept q h (sym e)) in
+          record {
+            top = s .top;
+            was = s .was;
+            entered = enter-new k (b .pairs) (closed mean b) (s .top) none-there ∙ (λ i. (sym all i, sym (s .closed) i));
+          };
+      registered = λ reg. subst (Register dig slots′) (sym states) (register-more ts (state-of (s .top)) dig slots slots′ (c .args .slot) number all wide reg missing new kept);
     }

@@ -1,12 +1,11 @@
-use mathlib.Core.Path.{_≡_, sym, ap, _∙_}
-use Prim.Native.Nat.{ℕ, max, _+_, _-_, _<_, _≤_}
+use mathlib.Core.Path.{_≡_, sym, _∙_}
+use Prim.Native.Nat.{max, _+_, _-_, _<_}
 use native.Mathlib.Omega.{arith}
 use lib.ListN.{length}
 use borrow.Author.Needs.{needs}
 use Rattle.stacks.specs.Stacks.{lows, highs}
 use Rattle.stacks.proofs.TwoEnds.{total}
 use Rattle.construction.specs.Records.{newest-key}
-use Rattle.records.specs.Shape.{Sound, openings, closings, edgings}
 use Rattle.records.specs.Holding.{held}
 use Rattle.records.proofs.Counting.{count-closed, count-open, count-edges}
 use Rattle.adding.specs.Admission.{states-held, arcs-held}
@@ -56,10 +55,13 @@ returns-then-arcs-growth g c =
     let mean = g .O·Output .meaning in
     let b = c .args .core .now in
     let n : states-held (held mean b) ≡ c .lows .result + c .max .result = omega (arith, count-closed mean b, count-open mean b, c .lows .ensures, c .highs .ensures, c .max .ensures) in
-    let m : arcs-held (held mean b) ≡ c .lows-2 .result + c .highs-2 .result = omega (arith, count-edges mean b (c .pre .sound), c .lows-2 .ensures, c .highs-2 .ensures) in
-    (c .if-key-gt64 .left, sym (c .is-above .ensures) ∙ c .if-not-is-above .left, c .if-core-ge1048575 .left,
+    let m : arcs-held (held mean b) ≡ c .lows-2 .result + c .highs-2 .result = omega (arith, count-edges mean b (c .pre .sound), c .lows-2 .ensures, c .highs-2 .ensures) in (
+      c .if-key-gt64 .left,
+      sym (c .is-above .ensures) ∙ c .if-not-is-above .left,
+      c .if-core-ge1048575 .left,
       omega (arith, n, c .capacity .ensures, c .common-prefix-depth .ensures, c .if-states-growth .left),
-      omega (arith, m, c .capacity-2 .ensures, c .common-prefix-depth .ensures, c .if-arcs-growth .taken))
+      omega (arith, m, c .capacity-2 .ensures, c .common-prefix-depth .ensures, c .if-arcs-growth .taken),
+    )
 
 pub returns : need.returns
 returns g c =
@@ -73,4 +75,5 @@ returns g c =
       few = c .if-core-ge1048575 .left;
       stateroom = omega (arith, n, c .capacity .ensures, c .common-prefix-depth .ensures, c .if-states-growth .left);
       arcroom = omega (arith, m, c .capacity-2 .ensures, c .common-prefix-depth .ensures, c .if-arcs-growth .left);
-      shared = c .common-prefix-depth .ensures }
+      shared = c .common-prefix-depth .ensures;
+    }

@@ -1,7 +1,5 @@
-use mathlib.Core.Path.{_≡_, _∙_}
-use Prim.Native.Nat.{_+_, _<_}
+use mathlib.Core.Path.{_∙_}
 use native.Mathlib.Omega.{arith}
-use lib.ListN.{length}
 use Rattle.records.specs.Holding.{held}
 use Rattle.records.proofs.Counting.{count-open}
 use Rattle.adding.proofs.NewestKey.{newest-length, newest-byte}

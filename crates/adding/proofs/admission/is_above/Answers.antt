@@ -1,12 +1,12 @@
-use mathlib.Core.Path.{_≡_, sym, ap, _∙_}
-use Prim.Native.Nat.{ℕ, _+_, _-_, _<_, _≤_}
+use mathlib.Core.Path.{sym, ap, _∙_}
+use Prim.Native.Nat.{ℕ, _-_, _<_}
 use native.Mathlib.Omega.{arith}
 use lib.Dec.{ltb}
 use lib.ListN.{length, getD}
 use Rattle.construction.specs.Records.{newest-key}
 use Rattle.records.specs.Holding.{held}
 use Rattle.records.proofs.Counting.{count-open}
-use Rattle.adding.proofs.NewestKey.{newest-length, above-none, above-newest}
+use Rattle.adding.proofs.NewestKey.{above-none, above-newest}
 use Rattle.adding.proofs.Parting.{common-within, lower-prefix, lower-longer, lower-parting}
 use Rattle.adding.proofs.admission.is_above.Needs as need
 
@@ -55,5 +55,5 @@ returns g c =
     let some : 0 < length os = omega (arith, count-open (g .O·Output .meaning) b, c .highs .ensures, c .if-highs-eq0 .left) in
     let within = common-within key (newest-key os) in
     ap (λ (n : ℕ). ltb n (getD key d 0)) (c .byte .ensures) ∙ sym (above-newest os key some ∙ lower-parting d key (newest-key os) (c .pre .leaves)
-      (omega (arith, within .0, c .pre .leaves, c .if-depth-key .left))
-      (omega (arith, within .1, c .pre .leaves, c .if-depth-length .left, c .length .ensures)))
+    (omega (arith, within .0, c .pre .leaves, c .if-depth-key .left))
+    (omega (arith, within .1, c .pre .leaves, c .if-depth-length .left, c .length .ensures)))

@@ -1,9 +1,9 @@
-use mathlib.Core.Path.{_≡_, refl, sym, ap, subst, _∙_}
+use mathlib.Core.Path.{refl, sym, ap, subst, _∙_}
 use mathlib.Core.Bool.{true}
 use mathlib.Core.List.{List, map, reverse}
-use Prim.Native.Nat.{ℕ, _+_, _≤_, _<_}
+use Prim.Native.Nat.{_+_}
 use native.Mathlib.Omega.{arith}
-use lib.ListN.{length, set, length-set}
+use lib.ListN.{length, length-set}
 use Rattle.stacks.specs.Stacks.{lows, highs}
 use Rattle.records.specs.declared.record.State.{State}
 use Rattle.records.specs.Shape.{Laid, Since}
@@ -32,17 +32,19 @@ returns g c =
     record {
       keeps = record {
         sound = moved b _ refl (s .lows) refl so (s .capacity) refl (s .room) (so .arcroom)
-          (subst (Laid (length L)) (sym (s .highs)) (laid-set (length L) hs 0 y x (so .laid) t refl refl))
-          (subst (Since (b .pairs + 1)) (sym (s .highs)) (since-set (b .pairs + 1) hs 0 y more (omega (arith, key))))
-          (omega (arith, c .pre .pairs));
+            (subst (Laid (length L)) (sym (s .highs)) (laid-set (length L) hs 0 y x (so .laid) t refl refl))
+            (subst (Since (b .pairs + 1)) (sym (s .highs)) (since-set (b .pairs + 1) hs 0 y more (omega (arith, key))))
+            (omega (arith, c .pre .pairs));
         states = s .lows;
         arcs = refl;
         slots = refl;
         staterooms = s .capacity;
-        arcrooms = refl };
+        arcrooms = refl;
+      };
       pairs = refl;
       start = refl;
       openings = ap length (s .highs) ∙ length-set _ _ _;
       records = ap (λ (xs : List (State (g .O .Denot))). reverse (map (open-record mean es) xs)) (s .highs)
-        ∙ ap reverse (records-newest mean es es x y (ended (mean (c .args .output))) (λ i j h. refl) refl (length L) hs (so .laid) (c .pre .opened) t)
-        ∙ reverse-first (ended (mean (c .args .output))) (map (open-record mean es) hs) }
+          ∙ ap reverse (records-newest mean es es x y (ended (mean (c .args .output))) (λ i j h. refl) refl (length L) hs (so .laid) (c .pre .opened) t)
+          ∙ reverse-first (ended (mean (c .args .output))) (map (open-record mean es) hs);
+    }

@@ -1,6 +1,6 @@
 use mathlib.Core.Path.{_≡_, refl, sym, ap, subst, _∙_}
 use mathlib.Core.List.{List, [], _∷_, _++_, map, reverse}
-use Prim.Native.Nat.{ℕ, _+_, _-_, _≤_, _<_}
+use Prim.Native.Nat.{ℕ, _+_, _-_, _<_}
 use native.Mathlib.Omega.{arith}
 use lib.ListN.{length, getD, set, take, drop, length-set}
 use borrow.Author.Needs.{needs}
@@ -46,27 +46,29 @@ returns g c =
     let m : length (lows (c .push-low .last .self)) ≡ length L + 1 = ap length (p .lows) ∙ length-push _ _ in
     let w : arcs-of mean (lows (c .push-low .last .self)) ≡ es ++ (e ∷ []) = ap (arcs-of mean) (p .lows) ∙ map-push (arc-of mean) L _ in
     let l : Led (length (lows (c .push-low .last .self))) (highs (c .set-high .last .self)) =
-      subst (λ (j : ℕ). Led j (highs (c .set-high .last .self))) (sym m) (subst (Led (length L + 1)) (sym (s .highs)) (led-more (length L) hs y x (c .pre .opened) (so .laid) t refl refl)) in
+    subst (λ (j : ℕ). Led j (highs (c .set-high .last .self))) (sym m) (subst (Led (length L + 1)) (sym (s .highs)) (led-more (length L) hs y x (c .pre .opened) (so .laid) t refl refl)) in
     let q : length es ≡ length L = length-map L (arc-of mean) in
     let here : take (x .count + 1) (drop (x .first) (es ++ (e ∷ []))) ≡ take (x .count) (drop (x .first) es) ++ (e ∷ []) = push-last-part es e (x .first) (x .count) (newest-end L hs x (c .pre .opened) (so .laid) t ∙ sym q) in
     record {
       keeps = record {
         sound = moved b _ refl (s .lows) (p .highs) so (s .capacity) (p .capacity) (s .room) (p .room) (led-laid _ _ l)
-          (subst (Since (b .pairs)) (sym (s .highs)) (since-set (b .pairs) hs 0 y (so .since) key)) (so .paired);
+            (subst (Since (b .pairs)) (sym (s .highs)) (since-set (b .pairs) hs 0 y (so .since) key)) (so .paired);
         states = s .lows;
         arcs = p .highs;
         slots = refl;
         staterooms = s .capacity;
-        arcrooms = p .capacity };
+        arcrooms = p .capacity;
+      };
       pairs = refl;
       start = refl;
       openings = n;
       arcs = m;
       led = l;
       records = ap (λ (xs : List (State (g .O .Denot))). reverse (map (open-record mean (arcs-of mean (lows (c .push-low .last .self)))) xs)) (s .highs)
-        ∙ ap (λ (fs : List (Edge (k .Ideal))). reverse (map (open-record mean fs) (set hs 0 y))) w
-        ∙ ap reverse (records-newest mean es (es ++ (e ∷ [])) x y (add-arc k (c .args .byte) v) (λ i j h. push-before es e i j (omega (arith, at .0, q))) (λ i. record { end = end-of mean x; arcs = here i; since = x .keys }) (length L) hs (so .laid) (c .pre .opened) t)
-        ∙ reverse-first (add-arc k (c .args .byte) v) (map (open-record mean es) hs) }
+          ∙ ap (λ (fs : List (Edge (k .Ideal))). reverse (map (open-record mean fs) (set hs 0 y))) w
+          ∙ ap reverse (records-newest mean es (es ++ (e ∷ [])) x y (add-arc k (c .args .byte) v) (λ i j h. push-before es e i j (omega (arith, at .0, q))) (λ i. record { end = end-of mean x; arcs = here i; since = x .keys }) (length L) hs (so .laid) (c .pre .opened) t)
+          ∙ reverse-first (add-arc k (c .args .byte) v) (map (open-record mean es) hs);
+    }
   where
     newest-end : {O X : Type 0} (L : List X) (hs : List (State O)) (x : State O) → 0 < length hs → Laid (length L) hs → x ≡ getD hs 0 x → x .first + x .count ≡ length L
     newest-end L [] x h l t = absurd (omega arith)

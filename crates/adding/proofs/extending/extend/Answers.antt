@@ -1,18 +1,18 @@
-use mathlib.Core.Path.{_≡_, refl, sym, ap, subst, _∙_}
-use mathlib.Core.List.{List, [], _∷_, _++_}
+use mathlib.Core.Path.{_≡_, sym, ap, _∙_}
+use mathlib.Core.List.{[], _∷_, _++_}
 use Prim.Native.Nat.{ℕ, suc, _+_, _-_, _≤_, _<_}
 use native.Mathlib.Omega.{arith}
 use native.Mathlib.Numerals.{add-one}
 use lib.ListN.{length, getD, drop}
 use Rattle.std.proofs.shelf.Lists.{drop-more, drop-all}
-use Rattle.construction.specs.Records.{Open, blank}
+use Rattle.construction.specs.Records.{blank}
 use Rattle.construction.specs.Steps.{add-arc, extend-last}
 use Rattle.machines.specs.Keys.{Key}
 use Rattle.records.specs.Holding.{held}
 use Rattle.records.proofs.Counting.{count-open}
 use Rattle.records.proofs.Moving.{closed-still}
 use Rattle.pushing.proofs.Keeping.{keeps-both}
-use Rattle.adding.specs.Extending.{at-last, ended}
+use Rattle.adding.specs.Extending.{at-last}
 use Rattle.adding.proofs.LastRecord.{extend-more, extend-done}
 use Rattle.adding.proofs.extending.extend.Needs as need
 
@@ -39,14 +39,15 @@ loop-i-again g c =
     let s0 = ap length (p .keeps .states) in
     let s1 = ap length (q .keeps .states) in
     let a0 = ap length (p .keeps .arcs) in
-    let a1 = ap length (q .keeps .arcs) in
-    (keeps-both b m a (inv .0) (keeps-both m n a (p .keeps) (q .keeps)),
+    let a1 = ap length (q .keeps .arcs) in (
+      keeps-both b m a (inv .0) (keeps-both m n a (p .keeps) (q .keeps)),
       q .pairs ∙ pp,
       q .start ∙ p .start ∙ inv .2,
       omega (arith, q .openings),
       omega (arith, inv .4, q .openings, p .openings, p .keeps .staterooms, q .keeps .staterooms),
       omega (arith, inv .5, q .arcs, p .arcs, p .keeps .arcrooms, q .keeps .arcrooms),
-      (λ j. extend-last k (b .pairs) (r j) (drop (i + 1) key) (c .empty-output .ensures j)) ∙ sym (extend-more k (b .pairs) os byte (drop (i + 1) key) left some) ∙ ap (λ (w : Key). extend-last k (b .pairs) os w left) (sym (drop-more key i 0 within)) ∙ inv .6)
+      (λ j. extend-last k (b .pairs) (r j) (drop (i + 1) key) (c .empty-output .ensures j)) ∙ sym (extend-more k (b .pairs) os byte (drop (i + 1) key) left some) ∙ ap (λ (w : Key). extend-last k (b .pairs) os w left) (sym (drop-more key i 0 within)) ∙ inv .6,
+    )
 
 pub returns : need.returns
 returns g c =

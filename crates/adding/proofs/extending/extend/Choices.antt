@@ -18,4 +18,4 @@ Inv-loop-i g l =
     × (closings (l .core) + openings (l .core) + (length (l .key) - l .i) ≤ capacity (l .core .states))
     × (edgings (l .core) + (length (l .key) - l .i) ≤ capacity (l .core .arcs))
     × (extend-last (g .O·Output .kind) (l .entry .core .pairs) (held (g .O·Output .meaning) (l .core) .open′) (drop (l .i) (l .key)) (g .O·Output .meaning (l .output))
-        ≡ extend-last (g .O·Output .kind) (l .entry .core .pairs) (held (g .O·Output .meaning) (l .entry .core) .open′) (drop (l .depth) (l .key)) (g .O·Output .meaning (l .entry .output)))
+    ≡ extend-last (g .O·Output .kind) (l .entry .core .pairs) (held (g .O·Output .meaning) (l .entry .core) .open′) (drop (l .depth) (l .key)) (g .O·Output .meaning (l .entry .output)))

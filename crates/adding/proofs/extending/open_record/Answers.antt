@@ -1,10 +1,10 @@
 use mathlib.Core.Path.{_≡_, refl, sym, ap, subst, _∙_}
-use mathlib.Core.List.{List, [], _∷_, map, reverse, reverse-cons}
-use Prim.Native.Nat.{ℕ, _+_, _≤_}
+use mathlib.Core.List.{List, map, reverse, reverse-cons}
+use Prim.Native.Nat.{ℕ}
 use native.Mathlib.Omega.{arith}
 use lib.ListN.{length}
 use Rattle.stacks.specs.Stacks.{lows, highs}
-use Rattle.construction.specs.Records.{Open, blank}
+use Rattle.construction.specs.Records.{blank}
 use Rattle.records.specs.declared.record.State.{State}
 use Rattle.records.specs.Shape.{Led, Laid, Since}
 use Rattle.records.specs.Holding.{arcs-of, open-record}
@@ -23,16 +23,18 @@ returns g c =
     record {
       keeps = record {
         sound = moved b _ refl (s .lows) refl so (s .capacity) refl (s .room) (so .arcroom)
-          (subst (Laid (length (lows (b .arcs)))) (sym (s .highs)) (omega (arith, n), subst (λ (m : ℕ). Led m hs) (sym n) (c .pre .led)))
-          (subst (Since (b .pairs)) (sym (s .highs)) (omega arith, so .since))
-          (so .paired);
+            (subst (Laid (length (lows (b .arcs)))) (sym (s .highs)) (omega (arith, n), subst (λ (m : ℕ). Led m hs) (sym n) (c .pre .led)))
+            (subst (Since (b .pairs)) (sym (s .highs)) (omega arith, so .since))
+            (so .paired);
         states = s .lows;
         arcs = refl;
         slots = refl;
         staterooms = s .capacity;
-        arcrooms = refl };
+        arcrooms = refl;
+      };
       pairs = refl;
       start = refl;
       openings = ap length (s .highs) ∙ omega arith;
       arcs = refl;
-      records = ap (λ (xs : List (State (g .O .Denot))). reverse (map (open-record mean es) xs)) (s .highs) ∙ reverse-cons (blank (b .pairs)) (map (open-record mean es) hs) }
+      records = ap (λ (xs : List (State (g .O .Denot))). reverse (map (open-record mean es) xs)) (s .highs) ∙ reverse-cons (blank (b .pairs)) (map (open-record mean es) hs);
+    }

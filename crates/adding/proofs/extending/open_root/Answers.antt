@@ -1,6 +1,6 @@
-use mathlib.Core.Path.{_≡_, refl, sym, ap, subst, _∙_}
-use mathlib.Core.List.{List, [], _∷_, _++_, map, reverse}
-use Prim.Native.Nat.{ℕ, max, _+_, _<_}
+use mathlib.Core.Path.{_≡_, refl, sym, ap, _∙_}
+use mathlib.Core.List.{List, [], _∷_, _++_}
+use Prim.Native.Nat.{_+_, _<_}
 use native.Mathlib.Omega.{arith}
 use lib.ListN.{length}
 use Rattle.std.proofs.shelf.Lists.{nil-from-length}
@@ -8,7 +8,7 @@ use Rattle.construction.specs.Records.{Open, blank}
 use Rattle.records.specs.Holding.{held}
 use Rattle.records.proofs.Counting.{count-open}
 use Rattle.records.proofs.Moving.{closed-still}
-use Rattle.pushing.proofs.Keeping.{keeps-none, started}
+use Rattle.pushing.proofs.Keeping.{keeps-none}
 use Rattle.adding.proofs.LastRecord.{rooted-first, rooted-later}
 use Rattle.adding.proofs.extending.open_root.Needs as need
 
@@ -27,7 +27,8 @@ returns-then-highs-eq0 g c =
       keeps = record { sound = w .sound; states = w .states; arcs = w .arcs; slots = w .slots; staterooms = w .staterooms; arcrooms = w .arcrooms };
       openings = omega (arith, e .openings, c .highs .ensures, c .if-highs-eq0 .taken);
       arcs = e .arcs;
-      holds = (λ i. record { closed = f i; open′ = r i; start = mean (e .start i); pairs = e .pairs i }) ∙ sym (rooted-first (mean (c .args .output)) h none) }
+      holds = (λ i. record { closed = f i; open′ = r i; start = mean (e .start i); pairs = e .pairs i }) ∙ sym (rooted-first (mean (c .args .output)) h none);
+    }
 
 pub returns-else-highs-eq0 : need.returns-else-highs-eq0
 returns-else-highs-eq0 g c =

@@ -14,9 +14,9 @@ returns-in-Break-arc g c =
     let k = g .O·Output .kind in
     let all = spread (g .S·Store .bytes (c .args .store .now)) in
     let h = stops k all (c .args .index) (c .args .state) (c .args .count) (c .args .working .now) (c .args .place) (c .loop-i .i) (c .loop-i .least) (c .loop-i .keys) (c .loop-i .longest) (c .loop-i .here) (c .loop-i .working) (c .loop-i .inv .2)
-      (c .in-Break-arc .field-0 .0) (omega arith) (c .in-Break-arc .ensures tt .answers) in
+    (c .in-Break-arc .field-0 .0) (omega arith) (c .in-Break-arc .ensures tt .answers) in
     let f = is-refused (Row-read k all (c .args .index) (c .args .state) (c .args .count) (c .args .working .now) (c .loop-i .working)) _ (c .in-Break-arc .field-0 .0) (c .from-residual .result) _ h (c .from-residual .ensures .1) in
-    record { answers = f .0; within = f .1; }
+    record { answers = f .0; within = f .1 }
 
 pub keys-at-keys-requires : need.keys-at-keys-requires
 keys-at-keys-requires g c κs =
@@ -27,10 +27,12 @@ pub loop-i-again : need.loop-i-again
 loop-i-again g c =
     let k = g .O·Output .kind in
     let all = spread (g .S·Store .bytes (c .args .store .now)) in
-    let a = c .in-Continue-arc .ensures tt in
-    (omega arith, (a .within .2, a .within .3),
-     more k all (c .args .index) (c .args .state) (c .args .count) (c .args .working .now) (c .args .place) (c .loop-i .i) (c .loop-i .least) (c .loop-i .keys) (c .loop-i .longest) (c .loop-i .here) (c .loop-i .working) (c .loop-i .inv .2)
-       (c .in-Continue-arc .arc, c .in-Continue-arc .behind) (c .keys-at-keys .result) (c .aim .result) (c .max-longest .result) _ (omega arith) (a .answers) (a .within .1) (omega (arith, a .within .1)) (c .keys-at-keys .ensures .keys) (c .aim .ensures .longest) (c .aim .ensures .marked) (omega arith))
+    let a = c .in-Continue-arc .ensures tt in (
+      omega arith,
+      (a .within .2, a .within .3),
+      more k all (c .args .index) (c .args .state) (c .args .count) (c .args .working .now) (c .args .place) (c .loop-i .i) (c .loop-i .least) (c .loop-i .keys) (c .loop-i .longest) (c .loop-i .here) (c .loop-i .working) (c .loop-i .inv .2)
+          (c .in-Continue-arc .arc, c .in-Continue-arc .behind) (c .keys-at-keys .result) (c .aim .result) (c .max-longest .result) _ (omega arith) (a .answers) (a .within .1) (omega (arith, a .within .1)) (c .keys-at-keys .ensures .keys) (c .aim .ensures .longest) (c .aim .ensures .marked) (omega arith),
+    )
 
 pub returns : need.returns
 returns g c =

@@ -14,18 +14,21 @@ returns-in-Break-count g c =
     let k = g .O·Output .kind in
     let all = spread (g .S·Store .bytes (c .args .store .now)) in
     let h = stops k all (c .args .index) (c .args .states) (c .args .place) (c .loop-state .state) (c .loop-state .arcs) (c .loop-state .here) (c .loop-state .working) (c .loop-state .inv .3)
-      _ (c .in-Break-count .field-0 .0) (omega arith) (c .in-Break-count .ensures tt .answers) in
+    _ (c .in-Break-count .field-0 .0) (omega arith) (c .in-Break-count .ensures tt .answers) in
     let f = is-refused (Records-read (c .args .states) _) _ (c .in-Break-count .field-0 .0) (c .from-residual .result) _ h (c .from-residual .ensures .1) in
-    record { answers = f .0; within = f .1; }
+    record { answers = f .0; within = f .1 }
 
 pub loop-state-again : need.loop-state-again
 loop-state-again g c =
     let k = g .O·Output .kind in
     let all = spread (g .S·Store .bytes (c .args .store .now)) in
-    let a = c .in-Continue-count .ensures tt in
-    (omega (arith, a .within .0), (a .within .1, a .within .2), below-more _ _ (c .loop-state .inv .2) (a .within .3),
-     more k all (c .args .index) (c .args .states) (c .args .place) (c .loop-state .state) (c .loop-state .arcs) (c .loop-state .here) (c .loop-state .working) (c .loop-state .inv .3)
-       (c .in-Continue-count .count, c .in-Continue-count .behind) _ (omega arith) (a .answers))
+    let a = c .in-Continue-count .ensures tt in (
+      omega (arith, a .within .0),
+      (a .within .1, a .within .2),
+      below-more _ _ (c .loop-state .inv .2) (a .within .3),
+      more k all (c .args .index) (c .args .states) (c .args .place) (c .loop-state .state) (c .loop-state .arcs) (c .loop-state .here) (c .loop-state .working) (c .loop-state .inv .3)
+          (c .in-Continue-count .count, c .in-Continue-count .behind) _ (omega arith) (a .answers),
+    )
 
 pub returns : need.returns
 returns g c =

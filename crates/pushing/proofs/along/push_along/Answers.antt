@@ -41,14 +41,16 @@ loop-d-again g c =
     let os = held mean m .open′ in
     let carry = mean (c .loop-d .carry) in
     let left = mean (c .loop-d .left) in
-    let h : d + 1 < length os = omega (arith, count-open mean m, inv .0 .openings, c .pre .opened) in
-    (shape-both b m a (inv .0) (e .shape),
+    let h : d + 1 < length os = omega (arith, count-open mean m, inv .0 .openings, c .pre .opened) in (
+      shape-both b m a (inv .0) (e .shape),
       e .start ∙ inv .1,
       λ s.
-        let so-far = inv .2 s in
-        let t = e .steps (storable-at k carry left d os (so-far .1)) in
-        (push-more k carry left d os (mean (r .0)) (mean (r .1)) (held mean a .open′) h (t .carried) (t .remains) (t .records) ∙ so-far .0,
-          storable-more k carry left d os (mean (r .0)) (mean (r .1)) (held mean a .open′) h (t .carried) (t .remains) (t .records) (so-far .1)))
+          let so-far = inv .2 s in
+          let t = e .steps (storable-at k carry left d os (so-far .1)) in (
+            push-more k carry left d os (mean (r .0)) (mean (r .1)) (held mean a .open′) h (t .carried) (t .remains) (t .records) ∙ so-far .0,
+            storable-more k carry left d os (mean (r .0)) (mean (r .1)) (held mean a .open′) h (t .carried) (t .remains) (t .records) (so-far .1),
+          ),
+    )
 
 pub push-record-requires : need.push-record-requires
 push-record-requires g c κs =
@@ -79,14 +81,15 @@ returns g c =
     let w = shape .keeps in
     let l : length os ≡ depth + 1 = omega (arith, count-open mean m, inv .0 .openings, c .pre .opened) in
     let so-far : Push-held-storable k (held mean b) x → (push-from k depth carry left os ≡ push-along k (k .rest common (mean (b .start))) (k .rest common x) (held mean b .open′)) × Storable-from k depth carry left os = λ storable.
-      let i = inv .2 (subst (λ (z : I × I). Along-storable k (z .0) (z .1) (held mean b .open′)) (sym (λ j. (p j, q j))) storable) in
-      (ap (λ (j : ℕ). push-from k j carry left os) (sym n) ∙ i .0 ∙ (λ j. push-along k (p j) (q j) (held mean b .open′)), subst (λ (j : ℕ). Storable-from k j carry left os) n (i .1)) in
+    let i = inv .2 (subst (λ (z : I × I). Along-storable k (z .0) (z .1) (held mean b .open′)) (sym (λ j. (p j, q j))) storable) in
+    (ap (λ (j : ℕ). push-from k j carry left os) (sym n) ∙ i .0 ∙ (λ j. push-along k (p j) (q j) (held mean b .open′)), subst (λ (j : ℕ). Storable-from k j carry left os) n (i .1)) in
     let t : Push-held-storable k (held mean b) x → (alter depth (push k carry) os, left) ≡ push-along k (k .rest common (mean (b .start))) (k .rest common x) (held mean b .open′) = λ storable. sym (push-last k carry left depth os l) ∙ so-far storable .0 in
     record {
       shape = shape;
       holds = λ storable.
-        let r = e .records (storable-at k carry left depth os (so-far storable .1)) ∙ ap (λ (z : List (Open I) × I). z .0) (t storable) in
-        let f = closed-still b a (w .slots) (w .states) (w .arcs) mean in
-        let o = ap mean (e .start ∙ inv .1) ∙ s in
-        λ i. record { closed = f i; open′ = r i; start = o i; pairs = shape .pairs i };
-      left = λ storable. ap (λ (z : List (Open I) × I). z .1) (t storable) }
+          let r = e .records (storable-at k carry left depth os (so-far storable .1)) ∙ ap (λ (z : List (Open I) × I). z .0) (t storable) in
+          let f = closed-still b a (w .slots) (w .states) (w .arcs) mean in
+          let o = ap mean (e .start ∙ inv .1) ∙ s in
+          λ i. record { closed = f i; open′ = r i; start = o i; pairs = shape .pairs i };
+      left = λ storable. ap (λ (z : List (Open I) × I). z .1) (t storable);
+    }

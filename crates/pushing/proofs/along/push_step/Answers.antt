@@ -1,6 +1,6 @@
-use mathlib.Core.Path.{_≡_, refl, sym, ap, _∙_}
+use mathlib.Core.Path.{_≡_, ap, _∙_}
 use mathlib.Core.List.{List}
-use Prim.Native.Nat.{ℕ, _+_, _<_}
+use Prim.Native.Nat.{_<_}
 use native.Mathlib.Omega.{arith}
 use lib.ListN.{length}
 use Rattle.construction.specs.Records.{Open, blank}
@@ -31,10 +31,12 @@ returns g c =
       shape = shape-both b (c .push-record .last .core) (c .lead .last .core) (p .shape) (q .shape);
       start = q .start ∙ p .start;
       steps = λ joins.
-        let w : mean (c .last-arc .result .output) ≡ whole k carry left (at-depth k d os) = c .last-arc .ensures .output ∙ ap (λ (ns : List (Open (k .Ideal))). last-output k (arcs-at d ns)) (p .records joins) ∙ ap (λ (o : Open (k .Ideal)). last-output k (o .arcs)) (alter-at (push k carry) d os (blank 0) h) in
-        let s : sh ≡ shared k carry left (at-depth k d os) = c .common-shared .ensures ∙ ap (λ (z : k .Ideal). k .common z left) w in
-        record {
-          records = q .records ∙ ap (alter d (lead k sh)) (p .records joins) ∙ alter-twice (lead k sh) (push k carry) d os
-            ∙ alter-at-place (λ o. lead k sh (push k carry o)) (stepped k carry left) d os (blank 0) (ap (λ (z : k .Ideal). lead k z (push k carry (at-depth k d os))) s);
-          carried = c .rest .ensures ∙ (λ i. k .rest (s i) (w i));
-          remains = c .rest-2 .ensures ∙ ap (λ (z : k .Ideal). k .rest z left) s } }
+          let w : mean (c .last-arc .result .output) ≡ whole k carry left (at-depth k d os) = c .last-arc .ensures .output ∙ ap (λ (ns : List (Open (k .Ideal))). last-output k (arcs-at d ns)) (p .records joins) ∙ ap (λ (o : Open (k .Ideal)). last-output k (o .arcs)) (alter-at (push k carry) d os (blank 0) h) in
+          let s : sh ≡ shared k carry left (at-depth k d os) = c .common-shared .ensures ∙ ap (λ (z : k .Ideal). k .common z left) w in
+          record {
+            records = q .records ∙ ap (alter d (lead k sh)) (p .records joins) ∙ alter-twice (lead k sh) (push k carry) d os
+                ∙ alter-at-place (λ o. lead k sh (push k carry o)) (stepped k carry left) d os (blank 0) (ap (λ (z : k .Ideal). lead k z (push k carry (at-depth k d os))) s);
+            carried = c .rest .ensures ∙ (λ i. k .rest (s i) (w i));
+            remains = c .rest-2 .ensures ∙ ap (λ (z : k .Ideal). k .rest z left) s;
+          };
+    }

@@ -1,6 +1,6 @@
 use mathlib.Core.Path.{_≡_, refl, sym, ap, subst, _∙_}
 use mathlib.Core.List.{List, map, reverse}
-use Prim.Native.Nat.{ℕ, _+_, _-_, _<_, _≤_}
+use Prim.Native.Nat.{ℕ, _+_, _-_, _<_}
 use native.Mathlib.Omega.{arith}
 use lib.ListN.{length, getD, set}
 use Rattle.std.proofs.shelf.Lists.{map-set, length-map, length-set, getD-map}
@@ -39,10 +39,13 @@ returns g c =
           arcs = s .highs;
           slots = refl;
           staterooms = refl;
-          arcrooms = s .capacity };
+          arcrooms = s .capacity;
+        };
         pairs = refl;
         openings = refl;
-        arcs = n };
+        arcs = n;
+      };
       start = refl;
       records = ap (λ (es : List (Edge (k .Ideal))). reverse (map (open-record mean es) hs)) v
-        ∙ records-led-by k mean (mean (c .args .output)) (arcs-of mean xs) x l (arc-of mean a) (omega arith) some (simp length-map h) q (length xs) hs (c .args .depth) (so .laid) (omega (arith, c .pre .opened)) (t .at x) }
+          ∙ records-led-by k mean (mean (c .args .output)) (arcs-of mean xs) x l (arc-of mean a) (omega arith) some (simp length-map h) q (length xs) hs (c .args .depth) (so .laid) (omega (arith, c .pre .opened)) (t .at x);
+    }

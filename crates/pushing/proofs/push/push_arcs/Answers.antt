@@ -1,6 +1,6 @@
 use mathlib.Core.Path.{_≡_, refl, sym, ap, subst, _∙_}
-use mathlib.Core.List.{List, map}
-use Prim.Native.Nat.{ℕ, _+_, _<_, _≤_}
+use mathlib.Core.List.{List}
+use Prim.Native.Nat.{ℕ, _+_, _<_}
 use native.Mathlib.Omega.{arith}
 use lib.ListN.{length, getD, set}
 use Rattle.std.proofs.shelf.Lists.{map-set, length-map, length-set, getD-map}
@@ -11,7 +11,7 @@ use Rattle.records.specs.Shape.{Laid}
 use Rattle.records.specs.Holding.{arc-of, arcs-of}
 use Rattle.records.proofs.Moving.{moved}
 use Rattle.pushing.specs.Altering.{alter-range}
-use Rattle.pushing.specs.Changes.{Same-shape, output-under}
+use Rattle.pushing.specs.Changes.{output-under}
 use Rattle.pushing.proofs.Keeping.{shape-none}
 use Rattle.pushing.proofs.Ranges.{range-more, range-none}
 use Rattle.pushing.proofs.push.push_arcs.Needs as need
@@ -37,21 +37,24 @@ loop-i-again g c =
     let v = ap (arcs-of mean) (s .lows) ∙ map-set (arc-of mean) xs i _ in
     let put-at : g .O·Output .kind .Ideal → List (Edge (g .O·Output .kind .Ideal)) = λ y. set (arcs-of mean xs) i (record { byte = a .byte; target = a .target; output = y }) in
     let u = ap put-at (c .join-output .ensures) in
-    let l : length (lows (c .set-low .last .self)) ≡ length xs = ap length (s .lows) ∙ length-set _ _ _ in
-    (record {
+    let l : length (lows (c .set-low .last .self)) ≡ length xs = ap length (s .lows) ∙ length-set _ _ _ in (
+      record {
         keeps = record {
           sound = moved b _ refl refl (s .highs) so refl (s .capacity) (so .stateroom) (s .room) (subst (λ (m : ℕ). Laid m (highs (b .states))) (sym l) (so .laid)) (so .since) (so .paired);
           states = w .states;
           arcs = s .highs ∙ w .arcs;
           slots = w .slots;
           staterooms = w .staterooms;
-          arcrooms = s .capacity ∙ w .arcrooms };
+          arcrooms = s .capacity ∙ w .arcrooms;
+        };
         pairs = inv .0 .pairs;
         openings = inv .0 .openings;
-        arcs = l ∙ inv .0 .arcs },
+        arcs = l ∙ inv .0 .arcs;
+      },
       inv .1,
       ap (alter-range (output-under f) (i + 1) (c .args .to)) (v ∙ u) ∙ range-more (output-under f) (arcs-of mean xs) i (c .args .to) (arc-of mean a) (omega arith) n q ∙ inv .2,
-      inv .3)
+      inv .3,
+    )
 
 pub returns : need.returns
 returns g c =

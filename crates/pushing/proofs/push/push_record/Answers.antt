@@ -1,6 +1,6 @@
 use mathlib.Core.Path.{_≡_, refl, sym, ap, subst, _∙_}
 use mathlib.Core.List.{List, map, reverse}
-use Prim.Native.Nat.{ℕ, _+_, _-_, _<_, _≤_}
+use Prim.Native.Nat.{ℕ, _-_, _<_}
 use native.Mathlib.Omega.{arith}
 use lib.ListN.{length, getD, set, length-set}
 use Rattle.stacks.specs.Stacks.{lows, highs}
@@ -45,22 +45,25 @@ returns g c =
       shape = record {
         keeps = record {
           sound = moved m _ refl (s .lows) refl so (s .capacity) refl (s .room) (so .arcroom)
-            (subst (Laid (length (lows (m .arcs)))) (sym put-in) (laid-set (length (lows (m .arcs))) hs i y x lain at (e .first) (e .count)))
-            (subst (Since (m .pairs)) (sym put-in) (since-set (m .pairs) hs i y sin (omega (arith, e .keys))))
-            (so .paired);
+              (subst (Laid (length (lows (m .arcs)))) (sym put-in) (laid-set (length (lows (m .arcs))) hs i y x lain at (e .first) (e .count)))
+              (subst (Since (m .pairs)) (sym put-in) (since-set (m .pairs) hs i y sin (omega (arith, e .keys))))
+              (so .paired);
           states = s .lows ∙ w .states;
           arcs = w .arcs;
           slots = w .slots;
           staterooms = s .capacity ∙ w .staterooms;
-          arcrooms = w .arcrooms };
+          arcrooms = w .arcrooms;
+        };
         pairs = p .shape .pairs;
         openings = ap length put-in ∙ length-set _ _ _;
-        arcs = p .shape .arcs };
+        arcs = p .shape .arcs;
+      };
       start = p .start;
       records = λ joins. ap (λ (xs : List (State (g .O .Denot))). reverse (map (open-record mean (arcs-of mean (lows (m .arcs)))) xs)) put-in
-        ∙ ap (λ (es : List (Edge (k .Ideal))). reverse (map (open-record mean es) (set hs i y))) (p .arcs)
-        ∙ records-under mean (join-or-empty k front) E x y e (length (lows (b .arcs))) hs d (c .pre .sound .laid) (c .pre .opened) at
-        ∙ pushes k front d (held mean b .open′) joins }
+          ∙ ap (λ (es : List (Edge (k .Ideal))). reverse (map (open-record mean es) (set hs i y))) (p .arcs)
+          ∙ records-under mean (join-or-empty k front) E x y e (length (lows (b .arcs))) hs d (c .pre .sound .laid) (c .pre .opened) at
+          ∙ pushes k front d (held mean b .open′) joins;
+    }
 
 pub returns-then-same : need.returns-then-same
 returns-then-same g c =

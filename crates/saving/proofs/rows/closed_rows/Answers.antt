@@ -1,12 +1,10 @@
 use mathlib.Core.Path.{_≡_, refl, sym, ap, subst}
 use mathlib.Core.List.{List, map}
-use Prim.Native.Nat.{ℕ, _<_}
 use native.Mathlib.Omega.{arith}
 use lib.ListN.{length}
 use Rattle.stacks.specs.Stacks.{lows, highs}
 use Rattle.stacks.proofs.TwoEnds.{total}
 use Rattle.records.specs.declared.record.Arc.{Arc}
-use Rattle.records.specs.declared.record.State.{State}
 use Rattle.records.specs.Shape.{Packed}
 use Rattle.records.specs.Holding.{arcs-of, closed-state}
 use Rattle.saving.proofs.rows.closed_rows.Needs as need

@@ -1,6 +1,5 @@
-use mathlib.Core.Path.{_≡_, refl, ap}
-use mathlib.Core.List.{_++_}
-use Prim.Native.Nat.{ℕ, _+_, _/_, _<_, _≤_}
+use mathlib.Core.Path.{_≡_, refl}
+use Prim.Native.Nat.{_+_, _<_, _≤_}
 use native.Mathlib.Omega.{arith}
 use lib.ListN.{length}
 use Rattle.std.specs.declared.result.Result.the-variants.{Ok, Err}
@@ -18,7 +17,7 @@ returns-then-spare-to g c =
     let row = bits-of (g .O·Output .kind) (g .O·Output .meaning) rows in
     let some-keys : 0 < rows .keys = omega arith in
     let full : g .S·Store .room old < length (g .S·Store .bytes old) + length (packed row) =
-        omega (arith, length-packed row, c .pre .place, c .pre .size, c .pre .spare, c .if-spare-to .taken, g .S·Store .sound old .within) in
+    omega (arith, length-packed row, c .pre .place, c .pre .size, c .pre .spare, c .if-spare-to .taken, g .S·Store .sound old .within) in
     record {
       image = (some-keys, full, refl);
       pairs = saves-pairs (g .S·Store .bytes) (g .S·Store .room) (g .O·Output .kind) (g .O·Output .meaning) rows old old (Err NoRoom) (some-keys, full, refl);
@@ -43,7 +42,7 @@ returns g c =
     let done = c .append-image .ensures in
     let some-keys : 0 < rows .keys = omega arith in
     let fits : length (g .S·Store .bytes old) + length (packed row) ≤ g .S·Store .room old =
-        omega (arith, length-packed row, c .pre .place, c .pre .size, c .pre .spare, c .if-spare-to .left, g .S·Store .sound old .within) in
+    omega (arith, length-packed row, c .pre .place, c .pre .size, c .pre .spare, c .if-spare-to .left, g .S·Store .sound old .within) in
     let size : c .args .to .length ≡ length (packed row) = omega (arith, length-packed row, c .pre .size) in
     record {
       image = (some-keys, fits, done .bytes, c .pre .place, size);

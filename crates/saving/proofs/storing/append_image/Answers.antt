@@ -1,9 +1,8 @@
 use mathlib.Core.Path.{_≡_, sym, ap, subst, _∙_}
-use mathlib.Core.List.{List, _++_}
-use Prim.Native.Nat.{ℕ}
+use mathlib.Core.List.{_++_}
 use native.Mathlib.Omega.{arith}
 use denote.Ref.{name, now}
-use lib.ListN.{length, length-append}
+use lib.ListN.{length-append}
 use Rattle.std.proofs.shelf.Lists.{take-all}
 use Rattle.outputs.specs.Bits.{packed}
 use Rattle.fields.specs.Packs.{pending}
@@ -27,8 +26,8 @@ returns g c =
     let (exit, lent) = c .store·1 .given in
     let ends : exit ≡ now (u .store) = lent (sym (done .follows .same ∙ grown .same ∙ ap name (first .store))) in
     let given = finished-run (room old) (room (now (s .store))) (room (now (t .store))) (bytes old) (bytes (now (s .store))) (bytes (now (t .store))) (bytes (now (u .store)))
-        (s .refused) (t .refused) (c .finish .result) (pending (s .filled) (s .partial)) (pending (t .filled) (t .partial)) row
-        (ap room begun) (ap bytes begun) (first .refused) (first .waits) packs (done .packed) in
+    (s .refused) (t .refused) (c .finish .result) (pending (s .filled) (s .partial)) (pending (t .filled) (t .partial)) row
+    (ap room begun) (ap bytes begun) (first .refused) (first .waits) packs (done .packed) in
     let Q : g .S .Denot → Type 0 = λ z. g .S·Store .follows z (now (u .store)) in
     let R : g .S .Denot → Type 0 = λ z. g .S·Store .follows old z in
     record {

@@ -32,7 +32,7 @@ returns g c =
     let rows = c .args .rows .now in
     let head = head-bits k (machine-of k mean rows) (rows .keys) in
     let base : c .head-length .result + 32 * length (rows .states .now) ≡ length head + 32 * length (machine-of k mean rows .states) =
-        omega (arith, c .head-length .ensures, length-map (rows .states .now) (closed-state mean (arcs-of mean (rows .arcs .now)))) in
+    omega (arith, c .head-length .ensures, length-map (rows .states .now) (closed-state mean (arcs-of mean (rows .arcs .now)))) in
     subst (λ row. g .K·BitSink .took (c .args .sink .now) row (c .write-records .last .sink))
-      (ap₂ (λ b rs. head ++ index-bits (places b rs) ++ in-turn rs) base (sym (records-same k mean (rows .arcs .now) (rows .states .now))))
-      (g .K·BitSink .taking .in-turn _ _ _ _ _ (g .K·BitSink .taking .in-turn _ _ _ _ _ (c .write-head .ensures) (c .write-index .ensures)) (c .write-records .ensures))
+    (ap₂ (λ b rs. head ++ index-bits (places b rs) ++ in-turn rs) base (sym (records-same k mean (rows .arcs .now) (rows .states .now))))
+    (g .K·BitSink .taking .in-turn _ _ _ _ _ (g .K·BitSink .taking .in-turn _ _ _ _ _ (c .write-head .ensures) (c .write-index .ensures)) (c .write-records .ensures))

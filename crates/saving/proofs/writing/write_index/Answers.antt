@@ -1,6 +1,5 @@
-use mathlib.Core.Path.{_≡_, subst, sym, ap, _∙_}
+use mathlib.Core.Path.{subst, ap}
 use mathlib.Core.List.{map}
-use Prim.Native.Nat.{ℕ, _+_}
 use native.Mathlib.Omega.{arith}
 use lib.ListN.{length, take, length-append}
 use Rattle.std.proofs.shelf.Lists.{take-all}
@@ -38,13 +37,14 @@ loop-state-again g c =
     let x = c .state-item .result in
     let before = map f (take i (rows .states .now)) in
     let (taken, place) = c .loop-state .inv in
-    let entry = subst (λ v. took (c .loop-state .sink) (bits 32 v) (c .put .last .self)) place (c .put .ensures) in
-    (subst (λ row. took (c .args .sink .now) row (c .put .last .self)) (index-more f (c .args .base) (rows .states .now) i x (omega arith)) (g .K·BitSink .taking .in-turn _ _ _ _ _ taken entry),
-     omega (arith, place, c .place-behind-place .ensures, length-append (in-turn before) (f x), ap length (records-more f (rows .states .now) i x (omega arith) (c .state-item .is))))
+    let entry = subst (λ v. took (c .loop-state .sink) (bits 32 v) (c .put .last .self)) place (c .put .ensures) in (
+      subst (λ row. took (c .args .sink .now) row (c .put .last .self)) (index-more f (c .args .base) (rows .states .now) i x (omega arith)) (g .K·BitSink .taking .in-turn _ _ _ _ _ taken entry),
+      omega (arith, place, c .place-behind-place .ensures, length-append (in-turn before) (f x), ap length (records-more f (rows .states .now) i x (omega arith) (c .state-item .is))),
+    )
 
 pub returns : need.returns
 returns g c =
     let rows = c .args .rows .now in
     subst (λ row. g .K·BitSink .took (c .args .sink .now) row (c .loop-state .sink))
-      (ap (λ ss. index-bits (places (c .args .base) (map (record-of (g .O·Output .kind) (g .O·Output .meaning) (rows .arcs .now)) ss))) (take-all (c .loop-state .state-index) (rows .states .now) (omega arith)))
-      (c .loop-state .inv .0)
+    (ap (λ ss. index-bits (places (c .args .base) (map (record-of (g .O·Output .kind) (g .O·Output .meaning) (rows .arcs .now)) ss))) (take-all (c .loop-state .state-index) (rows .states .now) (omega arith)))
+    (c .loop-state .inv .0)

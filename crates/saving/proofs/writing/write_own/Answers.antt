@@ -1,5 +1,4 @@
 use mathlib.Core.Path.{subst, sym, _∙_}
-use lib.ListN.{length}
 use Rattle.std.proofs.shelf.Lists.{length-map}
 use Rattle.outputs.specs.Bits.{bits}
 use Rattle.records.specs.Holding.{arc-of}

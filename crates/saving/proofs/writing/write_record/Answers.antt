@@ -15,5 +15,5 @@ returns g c =
     let from : ℕ = length as′ - s .first in
     let width : from + s .count - from ≡ s .count = omega arith in
     subst (λ own. g .K·BitSink .took (c .args .sink .now) (record-bits (g .O·Output .kind) (record { end = end-of mean s; arcs = own }) (s .keys)) (c .write-own .last .sink))
-      (ap (λ n. arcs-of mean (take n (drop from as′))) width ∙ arcs-part-last mean (s .count) (s .first) as′)
-      (c .write-own .ensures)
+    (ap (λ n. arcs-of mean (take n (drop from as′))) width ∙ arcs-part-last mean (s .count) (s .first) as′)
+    (c .write-own .ensures)

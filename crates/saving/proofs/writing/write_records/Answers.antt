@@ -20,12 +20,12 @@ pub loop-state-again : need.loop-state-again
 loop-state-again g c =
     let rows = c .args .rows .now in
     subst (λ row. g .K·BitSink .took (c .args .sink .now) row (c .write-record .last .sink))
-      (records-more (record-of (g .O·Output .kind) (g .O·Output .meaning) (rows .arcs .now)) (rows .states .now) (c .loop-state .state-index) (c .state-item .result) (omega arith) (c .state-item .is))
-      (g .K·BitSink .taking .in-turn _ _ _ _ _ (c .loop-state .inv) (c .write-record .ensures))
+    (records-more (record-of (g .O·Output .kind) (g .O·Output .meaning) (rows .arcs .now)) (rows .states .now) (c .loop-state .state-index) (c .state-item .result) (omega arith) (c .state-item .is))
+    (g .K·BitSink .taking .in-turn _ _ _ _ _ (c .loop-state .inv) (c .write-record .ensures))
 
 pub returns : need.returns
 returns g c =
     let rows = c .args .rows .now in
     subst (λ row. g .K·BitSink .took (c .args .sink .now) row (c .loop-state .sink))
-      (ap (λ ss. in-turn (map (record-of (g .O·Output .kind) (g .O·Output .meaning) (rows .arcs .now)) ss)) (take-all (c .loop-state .state-index) (rows .states .now) (omega arith)))
-      (c .loop-state .inv)
+    (ap (λ ss. in-turn (map (record-of (g .O·Output .kind) (g .O·Output .meaning) (rows .arcs .now)) ss)) (take-all (c .loop-state .state-index) (rows .states .now) (omega arith)))
+    (c .loop-state .inv)

@@ -1,4 +1,3 @@
-use mathlib.Core.List.{map}
 use lib.ListN.{take}
 use denote.Ref.{now}
 use Rattle.images.specs.Images.{in-turn}

@@ -1,3 +1,0 @@
-// Examples for the reference compiler, in a crate of their own: a crate with tests is proved twice.
-#[cfg(test)]
-mod tests;
