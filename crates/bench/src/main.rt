@@ -2,6 +2,7 @@
 use std::error::AnyError;
 
 mod agreement;
+mod stored;
 mod table;
 mod tally;
 mod tape;

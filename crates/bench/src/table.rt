@@ -11,6 +11,7 @@ use reference::compiling::compile;
 use reference::sheets::Detail;
 use reference::sheets::Sheet;
 use reference::sheets::read_pairs;
+use crate::stored::print_stored;
 use crate::tally::Tally;
 use reference::values::Value;
 use std::alloc::AllocError;
@@ -40,6 +41,7 @@ pub fn print_sheet<V: Twin>(
     )?;
     print_machine(rt, &machine)?;
     print_detail(rt, sheet.detail, &machine, &bytes, tally)?;
+    print_stored(rt, bytes.as_slice())?;
     compare(heap, pairs.as_slice(), calls)?;
     Ok(())
 }

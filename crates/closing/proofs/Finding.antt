@@ -12,7 +12,7 @@ use Rattle.outputs.specs.Kinds.{Kind, Laws, same}
 use Rattle.machines.specs.Lists.{Each}
 use Rattle.machines.specs.Machines.{Arc as Edge, State as Node}
 use Rattle.machines.proofs.Classes.{same-bits-refl}
-use Rattle.machines.proofs.RightAnswers.{same-bits-true, code-injective}
+use Rattle.machines.proofs.CommonOutputs.{same-bits-true, code-injective}
 use Rattle.construction.specs.Records.{Open, state-of, same-end, same-arcs, same-state, number-from, number-of}
 use Rattle.records.specs.declared.record.Arc.{Arc}
 use Rattle.records.specs.declared.record.State.{State}
