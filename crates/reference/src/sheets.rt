@@ -130,7 +130,7 @@ pub static SHEETS: [Sheet; 19] = [
     Sheet {
         name: "every output equal",
         kind: Kind::Numbers,
-        pairs: "K1=9 K2=9 K3=9 L1=9 L2=9 L3=9",
+        pairs: "K1=9 K2=9 K3=9 N1=9 N2=9 N3=9",
         states: 3,
         arcs: 5,
         bytes: 76,
