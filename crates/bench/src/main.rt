@@ -1,4 +1,5 @@
 // Compiles small sheets by brute force, prints what comes out, and compares it with what is expected.
+#![tactic(auto)]
 
 mod stored;
 mod table;

@@ -1,4 +1,6 @@
 // Closing open records: an equal closed state takes the place of a record, or the record becomes the next state.
+#![tactic(auto)]
+
 ghost use Rattle.std.specs.Prelude.{◌≡◌, ◌+◌, ◌<◌, length};
 ghost use Rattle.stacks.specs.Stacks.{lows, highs};
 ghost use Rattle.records.specs.Shape.{Sound, Within, Led, openings};

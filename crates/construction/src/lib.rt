@@ -1,4 +1,6 @@
 // The incremental construction of the minimal transducer, as functions on lists: the definitions and the theorems that the builder cites.
+#![tactic(auto)]
+
 ghost use Rattle.std.specs.Prelude.{◌≡◌, true, false};
 ghost use Rattle.machines.specs.Keys.{Key};
 ghost use Rattle.machines.specs.Pairs.{Pairs, Ascending, ByteKeys, AllStorable, Proper};

@@ -1,4 +1,6 @@
 //! Bit fields, read from and written to any store.
+#![tactic(auto)]
+
 mod counting;
 mod mark;
 mod packing;

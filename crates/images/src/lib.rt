@@ -1,4 +1,6 @@
 // The image of a dictionary, and what loading one answers: definitions and theorems.
+#![tactic(auto)]
+
 ghost use Rattle.images.specs.Figures.{FiguresHold, TwoWithin};
 ghost use Rattle.images.specs.Packings.{Packing};
 ghost use Rattle.images.specs.RoundTrip.{FitLoadsBack, PairsFit, PairsLoadBack, ImagesDiffer};

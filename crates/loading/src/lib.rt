@@ -1,4 +1,6 @@
 //! Loading an image: every field of it is tested before anything is read from it.
+#![tactic(auto)]
+
 mod arcs;
 mod ending;
 mod head;

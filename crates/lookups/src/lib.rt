@@ -1,4 +1,6 @@
 //! One state of a loaded image: its record, read through the index, part by part.
+#![tactic(auto)]
+
 mod numbers;
 mod outputs_at;
 mod rows;

@@ -1,4 +1,6 @@
 // Minimal subsequential transducers: the definitions and the theorems that the layers above cite.
+#![tactic(auto)]
+
 ghost use Rattle.std.specs.Prelude.{ℕ};
 ghost use Rattle.machines.specs.Pairs.{Pairs, Proper};
 ghost use Rattle.machines.specs.Realizing.{RightAnswers, Minimality};

@@ -1,4 +1,6 @@
 //! The rules of adding and of loading read a second time: plainly, and apart from the crates that follow them.
+#![tactic(auto)]
+
 pub mod adding;
 pub mod reading;
 pub mod row;

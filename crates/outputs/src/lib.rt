@@ -1,4 +1,6 @@
 // Output kinds: what a key is given, and how an image holds it.
+#![tactic(auto)]
+
 pub mod bits;
 pub mod number;
 pub mod output;

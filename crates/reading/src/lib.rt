@@ -1,4 +1,6 @@
 //! Reading calls on a loaded image: the output of a key, and its rank among the keys.
+#![tactic(auto)]
+
 mod finding;
 mod joining;
 mod ranking;

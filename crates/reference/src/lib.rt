@@ -1,4 +1,6 @@
 // A brute-force reference compiler: naive and obviously right, proved safe and ending.
+#![tactic(auto)]
+
 pub mod bits;
 pub mod compiling;
 pub mod fault;

@@ -1,6 +1,8 @@
 // The register of closed states: which one is equal to a given record, if any is. It is a table with open addressing over
 // lent slots: a slot holds the number of a state plus one, and 0 where it is free. A state is looked for from the slot
 // that its record leads to, its home, up to the end and on from slot 0.
+#![tactic(auto)]
+
 ghost use Rattle.std.specs.Prelude.{◌≡◌, ℕ, ◌+◌, ◌<◌, ◌≤◌, true, false, length, slice_index, slice_set};
 ghost use Rattle.register.specs.Slots.{Entered, Hole, used};
 ghost use Rattle.register.specs.Answers.{Among, Scanned, Told};

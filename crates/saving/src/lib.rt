@@ -1,4 +1,6 @@
 //! A sealed dictionary goes onto any store as exactly the image of its pairs.
+#![tactic(auto)]
+
 mod counting;
 mod refusal;
 mod rows;

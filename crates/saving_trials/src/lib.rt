@@ -1,3 +1,5 @@
 //! Small dictionaries saved: their images byte by byte, and what is refused.
+#![tactic(auto)]
+
 #[cfg(test)]
 mod tests;

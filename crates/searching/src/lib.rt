@@ -1,4 +1,6 @@
 //! The key of an output, looked for in a loaded image.
+#![tactic(auto)]
+
 mod naming;
 mod prefixes;
 mod refusal;

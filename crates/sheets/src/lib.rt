@@ -1,4 +1,6 @@
 //! Sheets: lines of a key, a TAB and an output.
+#![tactic(auto)]
+
 mod cutting;
 mod decimals;
 

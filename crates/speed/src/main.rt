@@ -1,4 +1,6 @@
 //! Times the dictionary on a sheet, writes images, and answers keys from them.
+#![tactic(auto)]
+
 mod answering;
 mod asking;
 mod chance;

@@ -1,4 +1,6 @@
 //! Stores: lists of bytes with a capacity, over memory that someone else owns.
+#![tactic(auto)]
+
 mod bytes;
 mod lent;
 mod runs;

@@ -1,4 +1,5 @@
 // Runs the dictionary on small sheets and on thrown lists, prints what comes out, and compares it with brute force.
+#![tactic(auto)]
 
 mod built;
 mod cases;

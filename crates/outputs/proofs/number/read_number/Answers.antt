@@ -14,6 +14,6 @@ returns-in-err-value g c =
 
 pub returns : goal.returns
 returns g c =
-    let h = c.in-ok-value.ensures in
+    let h = c.in_ok-value.ensures in
     by_reading numbers _ c.args.place _ _ (read_there (g.B.BitSource.all c.args.source.now) c.args.place 32 h.0)
     (h.2, ap (λ n. c.args.place + n) (sym (length_bits 32 _)), omega (arith, h.0, h.1))

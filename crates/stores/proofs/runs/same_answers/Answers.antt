@@ -18,8 +18,8 @@ loop-call-preserved g c =
     let l : i < length calls = omega arith in
     let one = answered _ _ _ _ calls i c.ask-given.result l bytes room given.answer in
     let other = answered _ _ _ _ calls i c.ask-reply.result l bytes' room' reply.answer in (
-      λ alike. c.still-same-same.ensures.1 (law alike, alike_answer _ _ _ _ _ _ _ _ _ _ _ _ alike bytes room bytes' room' given.answer reply.answer),
-      λ t. let (s, e) = c.still-same-same.ensures.0 t in same_more _ _ _ _ _ _ one other (told s) e,
+      λ alike. c.still_same-same.ensures.1 (law alike, alike_answer _ _ _ _ _ _ _ _ _ _ _ _ alike bytes room bytes' room' given.answer reply.answer),
+      λ t. let (s, e) = c.still_same-same.ensures.0 t in same_more _ _ _ _ _ _ one other (told s) e,
       left _ _ _ _ _ calls i l bytes room given.bytes,
       given.room ∙ room,
       left _ _ _ _ _ calls i l bytes' room' reply.bytes,

@@ -15,8 +15,8 @@ returns-then-a-b c =
     let n = c.agreeing.result in
     subst (λ m. Tells (take a.len a.bytes) (take b.len b.bytes) (eqb n m)) (long a)
     (same_length_same (take a.len a.bytes) (take b.len b.bytes) n
-    (ap (take n) (sym c.as-bytes.ensures) ∙ c.agreeing.ensures.shared ∙ ap₂ shared c.as-bytes.ensures c.as-bytes-then-a-b.ensures)
-    (omega (arith, c.agreeing.ensures.within_a, ap length c.as-bytes.ensures))
+    (ap (take n) (sym c.as_bytes.ensures) ∙ c.agreeing.ensures.shared ∙ ap₂ shared c.as_bytes.ensures c.as_bytes-then-a-b.ensures)
+    (omega (arith, c.agreeing.ensures.within_a, ap length c.as_bytes.ensures))
     (long a ∙ c.if-a-b.true ∙ sym (long b)))
 
 pub returns-else-a-b : goal.returns-else-a-b

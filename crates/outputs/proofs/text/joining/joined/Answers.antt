@@ -16,14 +16,14 @@ pub returns-then-a-b-gt-LONGEST : goal.returns-then-a-b-gt-LONGEST
 returns-then-a-b-gt-LONGEST c =
     let a = c.args.a.now in
     let b = c.args.b.now in
-    c.no-text.ensures ∙ sym (cond-false _ _ _ (sym (fits a b) ∙ lt-leb (a.len + b.len) 24 c.if-a-b-gt-LONGEST.true))
+    c.no_text.ensures ∙ sym (cond-false _ _ _ (sym (fits a b) ∙ lt-leb (a.len + b.len) 24 c.if-a-b-gt-LONGEST.true))
 
 pub returns : goal.returns
 returns c =
     let a = c.args.a.now in
     let b = c.args.b.now in
-    let long : length c.as-bytes.result.now ≡ b.len = ap length c.as-bytes.ensures ∙ length-take-le b.len b.bytes (omega (arith, b.fits, b.row)) in
+    let long : length c.as_bytes.result.now ≡ b.len = ap length c.as_bytes.ensures ∙ length-take-le b.len b.bytes (omega (arith, b.fits, b.row)) in
     ap (λ n. take (a.len + n) c.overwritten.result) (sym long)
     ∙ c.overwritten.ensures.written
-    ∙ ap (λ l. take a.len a.bytes ++ l) c.as-bytes.ensures
+    ∙ ap (λ l. take a.len a.bytes ++ l) c.as_bytes.ensures
     ∙ sym (cond-true _ _ _ (sym (fits a b) ∙ le-leb (a.len + b.len) 24 c.if-a-b-gt-LONGEST.false))

@@ -9,10 +9,10 @@ returns-then-agreeing-prefix c =
     let x = c.args.prefix.now in
     let z = c.args.whole.now in
     let n = c.agreeing.result in
-    let e = ap (take n) (sym c.as-bytes.ensures) ∙ c.agreeing.ensures.shared ∙ ap₂ shared c.as-bytes.ensures c.as-bytes-2.ensures in
+    let e = ap (take n) (sym c.as_bytes.ensures) ∙ c.agreeing.ensures.shared ∙ ap₂ shared c.as_bytes.ensures c.as_bytes-2.ensures in
     let l : length (take x.len x.bytes) ≡ x.len = length-take-le x.len x.bytes (omega (arith, x.fits, x.row)) in
     let few : length (shared (take x.len x.bytes) (take z.len z.bytes)) < length (take x.len x.bytes) = omega (arith, ap length e, length-take-le n (take x.len x.bytes) (omega (arith, l, c.if-agreeing-prefix.true)), l, c.if-agreeing-prefix.true) in
-    c.no-text.ensures ∙ sym (after_else_shared (take x.len x.bytes) (take z.len z.bytes) few)
+    c.no_text.ensures ∙ sym (after_else_shared (take x.len x.bytes) (take z.len z.bytes) few)
 
 pub returns : goal.returns
 returns c =
@@ -21,8 +21,8 @@ returns c =
     let n = c.agreeing.result in
     let l : length (take x.len x.bytes) ≡ x.len = length-take-le x.len x.bytes (omega (arith, x.fits, x.row)) in
     let m : length (take z.len z.bytes) ≡ z.len = length-take-le z.len z.bytes (omega (arith, z.fits, z.row)) in
-    let e = ap (take n) (sym c.as-bytes.ensures) ∙ c.agreeing.ensures.shared ∙ ap₂ shared c.as-bytes.ensures c.as-bytes-2.ensures in
-    let within : x.len ≤ z.len = omega (arith, c.if-agreeing-prefix.false, c.agreeing.ensures.within_b, ap length c.as-bytes-2.ensures, m) in
+    let e = ap (take n) (sym c.as_bytes.ensures) ∙ c.agreeing.ensures.shared ∙ ap₂ shared c.as_bytes.ensures c.as_bytes-2.ensures in
+    let within : x.len ≤ z.len = omega (arith, c.if-agreeing-prefix.false, c.agreeing.ensures.within_b, ap length c.as_bytes-2.ensures, m) in
     let whole = sym e ∙ take_all n (take x.len x.bytes) (omega (arith, l, c.if-agreeing-prefix.false)) in
     ap (λ k. take k c.overwritten.result) (sym (zero-add _))
     ∙ c.overwritten.ensures.written

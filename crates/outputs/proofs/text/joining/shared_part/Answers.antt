@@ -6,7 +6,7 @@ use Rattle.outputs.proofs.text.joining.shared_part.Goals as goal
 pub returns : goal.returns
 returns c =
     let self = c.args.a.now in
-    sym (take-take c.agreeing.result self.len self.bytes (omega (arith, c.agreeing.ensures.within_a, ap length c.as-bytes.ensures, length-take self.len self.bytes)))
-    ∙ ap (take c.agreeing.result) (sym c.as-bytes.ensures)
+    sym (take-take c.agreeing.result self.len self.bytes (omega (arith, c.agreeing.ensures.within_a, ap length c.as_bytes.ensures, length-take self.len self.bytes)))
+    ∙ ap (take c.agreeing.result) (sym c.as_bytes.ensures)
     ∙ c.agreeing.ensures.shared
-    ∙ ap₂ shared c.as-bytes.ensures c.as-bytes-2.ensures
+    ∙ ap₂ shared c.as_bytes.ensures c.as_bytes-2.ensures

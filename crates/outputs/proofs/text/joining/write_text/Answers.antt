@@ -8,7 +8,7 @@ pub loop-byte-preserved : goal.loop-byte-preserved
 loop-byte-preserved g c =
     let t = c.args.text.now in
     let i = c.loop-byte.byte-index in
-    let e = c.as-bytes-byte-items.ensures in
+    let e = c.as_bytes-byte-items.ensures in
     subst (λ row. g.K.BitSink.took c.put.new.self row c.put-in-loop-byte.new.self)
     (ap (λ v. spread (take i (take t.len t.bytes)) ++ bits 8 v) (c.from.ensures ∙ ap (λ xs. get_or xs i 0) e) ∙ sym (spread_more (take t.len t.bytes) i (omega (arith, c.loop-byte-test.true, ap length e))))
     (g.K.BitSink.taking.in_turn _ _ _ _ _ c.loop-byte.invariant c.put-in-loop-byte.ensures)
@@ -16,7 +16,7 @@ loop-byte-preserved g c =
 pub returns : goal.returns
 returns g c =
     let t = c.args.text.now in
-    let e = c.as-bytes-byte-items.ensures in
+    let e = c.as_bytes-byte-items.ensures in
     subst (λ row. g.K.BitSink.took c.args.sink.now row c.loop-byte.sink)
     (ap₂ (λ n xs. bits 5 n ++ spread xs)
     (sym (length-take-le t.len t.bytes (omega (arith, t.fits, t.row))))

@@ -11,8 +11,8 @@ loop-i-preserved g c =
     let all = g.B.BitSource.all c.args.source.now in
     let p = c.args.place in
     let i = c.loop-i.i in
-    let v = c.in-ok-bytes.field-0 in
-    let h = c.in-ok-bytes.ensures in
+    let v = c.in_ok-bytes.field-0 in
+    let h = c.in_ok-bytes.ensures in
     let inv = c.loop-i.invariant in (
       omega (arith, h.0),
       take_more_set c.loop-i.bytes i v (omega (arith, inv.3, c.loop-i-test.true, c.requires))

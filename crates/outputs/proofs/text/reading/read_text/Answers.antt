@@ -19,9 +19,9 @@ pub returns : goal.returns
 returns g c =
     let all = g.B.BitSource.all c.args.source.now in
     let p = c.args.place in
-    let n = c.in-ok-len.len in
-    let a = c.in-ok-len.ensures in
-    let b = c.in-ok-bytes.ensures in
+    let n = c.in_ok-len.len in
+    let a = c.in_ok-len.ensures in
+    let b = c.in_ok-bytes.ensures in
     by_reading texts _ p _ _ (text_there all p n a.3 b.0) (
       b.1,
       omega (arith, code_length _ n (length_octets n (drop (p + 5) all))),
