@@ -1,5 +1,5 @@
 //! A store over lent words of 32 bits.
-ghost use Rattle.std.specs.Prelude.{◌≡◌, ◌+◌, ◌*◌, ◌/◌, ◌%◌, ◌<◌, ◌≤◌, length, take, if◌then◌else◌, slice_index, slice_set};
+ghost use Rattle.std.specs.Prelude.{cond, ◌≡◌, ◌+◌, ◌*◌, ◌/◌, ◌%◌, ◌<◌, ◌≤◌, length, take, if◌then◌else◌, slice_index, slice_set};
 ghost use Rattle.stores.specs.Refusals.{Checked};
 ghost use Rattle.stores.specs.Reads.{At};
 ghost use Rattle.stores.specs.Appends.{Appended, Wrote};

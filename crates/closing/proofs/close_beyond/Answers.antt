@@ -9,8 +9,8 @@ use Rattle.closing.specs.Closing.{closed_beyond, aim_newest}
 use Rattle.closing.proofs.Ascending.{hold, beyond_step, beyond_none}
 use Rattle.closing.proofs.close_beyond.Goals as goal
 
-pub overflow-add-kept : goal.overflow-add-kept
-overflow-add-kept g c =
+pub overflow_add-kept : goal.overflow_add-kept
+overflow_add-kept g c =
     let s = c.args.core.now.states in
     let t = total s.cells.now s.low s.high c.requires.sound.stateroom in
     let m : c.args.depth + 1 < 65537 = omega (arith, c.requires.sound.few, c.requires.opened) in search rules
@@ -22,12 +22,12 @@ loop-preserved g c =
     let dig = g.row.O-Output.digested in
     let depth = c.args.depth in
     let b = c.loop.core in
-    let m = c.close-top-number.new.core in
-    let a = c.lead-to.new.core in
-    let q = c.close-top-number.result in
+    let m = c.close_top-number.new.core in
+    let a = c.lead_to.new.core in
+    let q = c.close_top-number.result in
     let inv = c.loop.invariant in
-    let p = c.close-top-number.ensures.popped in
-    let l = c.lead-to.ensures in
+    let p = c.close_top-number.ensures.popped in
+    let l = c.lead_to.ensures in
     let n : length (opened mean m) ≡ openings m = count_opened mean m in
     let deep : depth < length (opened mean m) = omega (arith, n, p.opens, inv.3, c.loop-test.true, c.highs-end.ensures) in
     let is : held mean a ≡ hold k b.pairs (mean b.start) (closed mean m) (reverse (aim_newest q (opened mean m))) =
@@ -36,7 +36,7 @@ loop-preserved g c =
     λ i. record { closed = l.closed i; open' = reverse (l.opened i); start = mean (st i); pairs = pr i } in
     let states : closed_states mean a ≡ closed_states mean m = ap (λ (x : Closed k.Ideal). x.states) l.closed in (
       l.sound,
-      λ reg. subst (λ (xs : List ℕ). Register dig xs (closed_states mean a)) (sym l.slots) (subst (Register dig m.slots.now) (sym states) (c.close-top-number.ensures.registered (inv.1 reg))),
+      λ reg. subst (λ (xs : List ℕ). Register dig xs (closed_states mean a)) (sym l.slots) (subst (Register dig m.slots.now) (sym states) (c.close_top-number.ensures.registered (inv.1 reg))),
       record {
         staterooms = l.within.staterooms ∙ p.within.staterooms ∙ inv.2.staterooms;
         arcrooms = l.within.arcrooms ∙ p.within.arcrooms ∙ inv.2.arcrooms;
@@ -45,7 +45,7 @@ loop-preserved g c =
       },
       omega (arith, l.opens, p.opens, inv.3),
       λ reg.
-          let t = c.close-top-number.ensures.closes (inv.1 reg) in
+          let t = c.close_top-number.ensures.closes (inv.1 reg) in
           let was : held mean b ≡ hold k b.pairs (mean b.start) (closed mean b) (reverse (t.top ∷ opened mean m)) =
           λ i. record { closed = closed mean b; open' = reverse (t.was i); start = mean b.start; pairs = b.pairs } in
           let step = beyond_step k b.pairs (mean b.start) (closed mean b) depth t.top (opened mean m) q (closed mean m) deep t.entered in

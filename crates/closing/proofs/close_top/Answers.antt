@@ -16,8 +16,8 @@ returns-in-Found g c =
     let mean = g.row.O-Output.meaning in
     let dig = g.row.O-Output.digested in
     let b = c.args.core.now in
-    let a = c.drop-top.new.core in
-    let d = c.drop-top.ensures.dropped in
+    let a = c.drop_top.new.core in
+    let d = c.drop_top.ensures.dropped in
     let ts = closed_states mean b in
     let q = c.in-Found.number in
     let told = c.in-Found.ensures in
@@ -25,7 +25,7 @@ returns-in-Found g c =
     let top : newest (opened mean b) ≡ state_of d.top = ap newest d.was in
     let states : closed_states mean a ≡ ts = ap (λ (x : Closed k.Ideal). x.states) d.closed in
     record {
-      popped = c.drop-top.ensures.popped;
+      popped = c.drop_top.ensures.popped;
       closes = λ reg.
           let there = number_found k g.met.O.Output.lawful (state_of d.top) (stored_top k mean g.met.O.Output.stored (lows b.arcs) (highs b.states) d.top _ d.was) ts q (stored_closed k mean g.met.O.Output.stored (highs b.arcs) (lows b.states))
           reg.distinct (omega (arith, told.0, n)) (sym top ∙ told.1) in

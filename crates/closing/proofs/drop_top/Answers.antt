@@ -14,16 +14,16 @@ returns g c =
     let mean = g.row.O-Output.meaning in
     let so = c.requires.sound in
     let b = c.args.core.now in
-    let p = c.pop-high-top.ensures in
-    let f = c.forget-low.ensures in
-    let top = c.pop-high-top.result in
-    let hs = highs c.pop-high-top.new.self in
+    let p = c.pop_high-top.ensures in
+    let f = c.forget_low.ensures in
+    let top = c.pop_high-top.result in
+    let hs = highs c.pop_high-top.new.self in
     let L = lows b.arcs in
-    let L' = lows c.forget-low.new.self in
+    let L' = lows c.forget_low.new.self in
     let lain : Laid (length L) (top ∷ hs) = subst (Laid (length L)) p.highs so.laid in
     let sin : Since b.pairs (top ∷ hs) = subst (Since b.pairs) p.highs so.since in
     let led = led_left L top hs lain L' f.lows in
-    let a : Core g.row.O.Denot = record { states = c.pop-high-top.new.self; arcs = c.forget-low.new.self; slots = b.slots; pairs = b.pairs; start = b.start } in
+    let a : Core g.row.O.Denot = record { states = c.pop_high-top.new.self; arcs = c.forget_low.new.self; slots = b.slots; pairs = b.pairs; start = b.start } in
     let record_at = open_record mean (arcs_of mean L) in
     record {
       popped = record {

@@ -19,7 +19,7 @@ use Rattle.closing.proofs.keep_top.Goals as goal
 pub enter-requires : goal.enter-requires
 enter-requires g c =
     let b = c.args.core.now in
-    let s = c.settle-top-number.ensures.settled in
+    let s = c.settle_top-number.ensures.settled in
     let hole = c.requires.missing.hole in
     let t = total b.states.cells.now b.states.low b.states.high c.requires.sound.stateroom in
     record {
@@ -34,11 +34,11 @@ returns g c =
     let mean = g.row.O-Output.meaning in
     let dig = g.row.O-Output.digested in
     let b = c.args.core.now in
-    let m = c.settle-top-number.new.core in
-    let p = c.settle-top-number.ensures.popped in
-    let s = c.settle-top-number.ensures.settled in
+    let m = c.settle_top-number.new.core in
+    let p = c.settle_top-number.ensures.popped in
+    let s = c.settle_top-number.ensures.settled in
     let e = c.enter.ensures in
-    let number = c.settle-top-number.result in
+    let number = c.settle_top-number.result in
     let slots = b.slots.now in
     let slots' = c.enter.new.slots in
     let so = p.sound in

@@ -10,32 +10,32 @@ use Rattle.records.proofs.Moving.{moved, closed_still}
 use Rattle.closing.proofs.Aiming.{aimed, opens_aimed}
 use Rattle.closing.proofs.lead_to.Goals as goal
 
-pub overflow-sub-last : goal.overflow-sub-last
-overflow-sub-last g c = let b = c.args.core.now in omega (arith, led_some _ (highs b.states) c.requires.top c.requires.led, c.lows-last.ensures)
+pub overflow_sub-last : goal.overflow_sub-last
+overflow_sub-last g c = let b = c.args.core.now in omega (arith, led_some _ (highs b.states) c.requires.top c.requires.led, c.lows-last.ensures)
 
-pub at-low-arc-requires : goal.at-low-arc-requires
-at-low-arc-requires g c = let b = c.args.core.now in record { room = c.requires.sound.arcroom; fits = omega (arith, led_some _ (highs b.states) c.requires.top c.requires.led, c.lows-last.ensures) }
+pub at_low-arc-requires : goal.at_low-arc-requires
+at_low-arc-requires g c = let b = c.args.core.now in record { room = c.requires.sound.arcroom; fits = omega (arith, led_some _ (highs b.states) c.requires.top c.requires.led, c.lows-last.ensures) }
 
-pub set-low-requires : goal.set-low-requires
-set-low-requires g c = let b = c.args.core.now in record { room = c.requires.sound.arcroom; fits = omega (arith, led_some _ (highs b.states) c.requires.top c.requires.led, c.lows-last.ensures) }
+pub set_low-requires : goal.set_low-requires
+set_low-requires g c = let b = c.args.core.now in record { room = c.requires.sound.arcroom; fits = omega (arith, led_some _ (highs b.states) c.requires.top c.requires.led, c.lows-last.ensures) }
 
 pub returns : goal.returns
 returns g c =
     let mean = g.row.O-Output.meaning in
     let b = c.args.core.now in
     let so = c.requires.sound in
-    let s = c.set-low.ensures in
+    let s = c.set_low.ensures in
     let L = lows b.arcs in
     let es = arcs_of mean L in
-    let x = c.at-low-arc.result in
+    let x = c.at_low-arc.result in
     let i = c.lows-last.result - 1 in
     let q = c.args.number in
     let some_arc : 0 < length L = led_some _ (highs b.states) c.requires.top c.requires.led in
     let k : i < length L = omega (arith, c.lows-last.ensures) in
     let n : length es ≡ length L = length-map L (arc_of mean) in
-    let a : Core g.row.O.Denot = record { states = b.states; arcs = c.set-low.new.self; slots = b.slots; pairs = b.pairs; start = b.start } in
+    let a : Core g.row.O.Denot = record { states = b.states; arcs = c.set_low.new.self; slots = b.slots; pairs = b.pairs; start = b.start } in
     let l : length (lows a.arcs) ≡ length L = ap length s.lows ∙ length-set L i _ in
-    let at : arc_of mean x ≡ get_or es i (arc_of mean x) = ap (arc_of mean) (c.at-low-arc.ensures x) ∙ sym (get_or-map (arc_of mean) L i x (arc_of mean x) k) in
+    let at : arc_of mean x ≡ get_or es i (arc_of mean x) = ap (arc_of mean) (c.at_low-arc.ensures x) ∙ sym (get_or-map (arc_of mean) L i x (arc_of mean x) k) in
     let written : arcs_of mean (lows a.arcs) ≡ set es i (aimed q (arc_of mean x)) = ap (arcs_of mean) s.lows ∙ map-set (arc_of mean) L i _ in
     let led : Led (length es) (highs b.states) = subst (λ (m : ℕ). Led m (highs b.states)) (sym n) c.requires.led in
     record {

@@ -12,16 +12,16 @@ use Rattle.closing.proofs.settle_top.Goals as goal
 
 pub overflow-cast-first : goal.overflow-cast-first
 overflow-cast-first g c =
-    let a = c.settle-all.new.self in
-    let e = c.settle-all.ensures in
+    let a = c.settle_all.new.self in
+    let e = c.settle_all.ensures in
     let t = total a.cells.now a.low a.high e.room in
     let m : c.highs-first.result < 131072 = omega (arith, c.highs-first.ensures, e.capacity, c.requires.sound.arcfew) in
     search rules
 
-pub push-low-requires : goal.push-low-requires
-push-low-requires g c =
+pub push_low-requires : goal.push_low-requires
+push_low-requires g c =
     let s = c.args.core.now.states in
-    let e = c.pop-high-top.ensures in
+    let e = c.pop_high-top.ensures in
     let t = total s.cells.now s.low s.high c.requires.sound.stateroom in
     let h = ap length e.highs in
     let l = ap length e.lows in
@@ -32,15 +32,15 @@ returns g c =
     let mean = g.row.O-Output.meaning in
     let so = c.requires.sound in
     let b = c.args.core.now in
-    let p = c.pop-high-top.ensures in
-    let a = c.settle-all.ensures in
-    let u = c.push-low.ensures in
-    let top = c.pop-high-top.result in
-    let hs = highs c.pop-high-top.new.self in
+    let p = c.pop_high-top.ensures in
+    let a = c.settle_all.ensures in
+    let u = c.push_low.ensures in
+    let top = c.pop_high-top.result in
+    let hs = highs c.pop_high-top.new.self in
     let L = lows b.arcs in
-    let L' = lows c.settle-all.new.self in
+    let L' = lows c.settle_all.new.self in
     let H = highs b.arcs in
-    let H' = highs c.settle-all.new.self in
+    let H' = highs c.settle_all.new.self in
     let ls = lows b.states in
     let first = c.highs-first.result in
     let t : State g.row.O.Denot = record { ends = top.ends; end = top.end; count = top.count; first = first; keys = b.pairs - top.keys } in
@@ -48,11 +48,11 @@ returns g c =
     let sin : Since b.pairs (top ∷ hs) = subst (Since b.pairs) p.highs so.since in
     let placed : Placed (length H) ls = packed_placed 0 (length H) ls so.packed in
     let more : length H' ≡ length H + top.count = longer L top hs lain mean H H' a.highs ls placed b.pairs in
-    let hs' : highs c.push-low.new.self ≡ hs = u.highs in
-    let ls' : lows c.push-low.new.self ≡ ls ++ (t ∷ []) = u.lows ∙ ap (λ (x : List (State g.row.O.Denot)). x ++ (t ∷ [])) p.lows in
-    let n : length (lows c.push-low.new.self) ≡ length ls + 1 = ap length ls' ∙ length_push ls t in
-    let o : length (highs b.states) ≡ length (highs c.push-low.new.self) + 1 = ap length p.highs ∙ omega (arith, ap length hs') in
-    let led : Led (length L') (highs c.push-low.new.self) = subst (Led (length L')) (sym hs') (led_left L top hs lain L' a.lows) in
+    let hs' : highs c.push_low.new.self ≡ hs = u.highs in
+    let ls' : lows c.push_low.new.self ≡ ls ++ (t ∷ []) = u.lows ∙ ap (λ (x : List (State g.row.O.Denot)). x ++ (t ∷ [])) p.lows in
+    let n : length (lows c.push_low.new.self) ≡ length ls + 1 = ap length ls' ∙ length_push ls t in
+    let o : length (highs b.states) ≡ length (highs c.push_low.new.self) + 1 = ap length p.highs ∙ omega (arith, ap length hs') in
+    let led : Led (length L') (highs c.push_low.new.self) = subst (Led (length L')) (sym hs') (led_left L top hs lain L' a.lows) in
     let record_at = open_record mean (arcs_of mean L) in
     record {
       popped = record {
@@ -62,7 +62,7 @@ returns g c =
           few = omega (arith, so.few, u.capacity, p.capacity);
           arcfew = omega (arith, so.arcfew, a.capacity);
           slotroom = omega (arith, so.slotroom, u.capacity, p.capacity);
-          laid = led_laid (length L') (highs c.push-low.new.self) led;
+          laid = led_laid (length L') (highs c.push_low.new.self) led;
           since = subst (Since b.pairs) (sym hs') sin.1;
           packed = subst (Packed 0 (length H')) (sym ls') (packed_push 0 (length H) (length H') ls t so.packed c.highs-first.ensures more);
           known = λ i. omega (arith, so.known i, n);

@@ -17,19 +17,19 @@ use Rattle.adding.proofs.NewestKey.{newest_length}
 use Rattle.adding.proofs.Parting.{common_within}
 use Rattle.adding.proofs.add.add.Goals as goal
 
-pub open-root-requires : goal.open-root-requires
-open-root-requires g c =
+pub open_root-requires : goal.open_root-requires
+open_root-requires g c =
     let mean = g.row.O-Output.meaning in
     let b = c.args.core.now in
-    let a = c.in-ok-depth.ensures in
+    let a = c.in_ok-depth.ensures in
     record { sound = c.requires.ready.sound; room = λ z. omega (arith, a.stateroom, count_closed mean b) }
 
-pub close-beyond-requires : goal.close-beyond-requires
-close-beyond-requires g c =
+pub close_beyond-requires : goal.close_beyond-requires
+close_beyond-requires g c =
     let mean = g.row.O-Output.meaning in
     let b = c.args.core.now in
-    let a = c.in-ok-depth.ensures in
-    let r = c.open-root.ensures in
+    let a = c.in_ok-depth.ensures in
+    let r = c.open_root.ensures in
     let w = r.keeps in
     let os = (held mean b).open' in
     let within = common_within c.args.key.now (newest_key os) in
@@ -38,8 +38,8 @@ close-beyond-requires g c =
       opened = omega (arith, a.shared, within.1, newest_length os, count_open mean b, r.openings);
     }
 
-pub push-along-left-requires : goal.push-along-left-requires
-push-along-left-requires g c = let e = c.close-beyond.ensures in record { sound = e.sound; opened = e.opens }
+pub push_along-left-requires : goal.push_along-left-requires
+push_along-left-requires g c = let e = c.close_beyond.ensures in record { sound = e.sound; opened = e.opens }
 
 pub extend-requires : goal.extend-requires
 extend-requires g c =
@@ -49,18 +49,18 @@ extend-requires g c =
     let key = c.args.key.now in
     let b = c.args.core.now in
     let h = held mean b in
-    let d = c.in-ok-depth.depth in
-    let a = c.in-ok-depth.ensures in
-    let r = c.open-root.ensures in
-    let e = c.close-beyond.ensures in
-    let p = c.push-along-left.ensures.shape in
+    let d = c.in_ok-depth.depth in
+    let a = c.in_ok-depth.ensures in
+    let r = c.open_root.ensures in
+    let e = c.close_beyond.ensures in
+    let p = c.push_along-left.ensures.shape in
     let os = h.open' in
     let within = common_within key (newest_key os) in
     let s1 = ap length r.keeps.states in
     let s3 = ap length p.keeps.states in
     let a1 = ap length r.keeps.arcs in
     let a3 = ap length p.keeps.arcs in
-    let n : c.open-root.new.core.pairs ≡ b.pairs = ap (λ (z : Held k.Ideal). z.pairs) r.holds ∙ rooted_pairs x h in
+    let n : c.open_root.new.core.pairs ≡ b.pairs = ap (λ (z : Held k.Ideal). z.pairs) r.holds ∙ rooted_pairs x h in
     record {
       sound = p.keeps.sound;
       opened = omega (arith, p.openings, e.opens);
@@ -78,11 +78,11 @@ returns g c =
     let key = c.args.key.now in
     let b = c.args.core.now in
     let h = held mean b in
-    let d = c.in-ok-depth.depth in
-    let a = c.in-ok-depth.ensures in
-    let r = c.open-root.ensures in
-    let e = c.close-beyond.ensures in
-    let p = c.push-along-left.ensures in
+    let d = c.in_ok-depth.depth in
+    let a = c.in_ok-depth.ensures in
+    let r = c.open_root.ensures in
+    let e = c.close_beyond.ensures in
+    let p = c.push_along-left.ensures in
     let t = c.extend.ensures in
     let w = p.shape.keeps in
     let v = t.keeps in
@@ -98,14 +98,14 @@ returns g c =
       adds = record {
         admitted = subst (λ (n : ℕ). Admitted (capacity b.states) (capacity b.arcs) h key n) a.shared a;
         registered = λ reg.
-            let rooted_reg = registered_still b c.open-root.new.core o.slots o.states o.arcs dig mean reg in
-            let pushed_reg = registered_still c.close-beyond.new.core c.push-along-left.new.core w.slots w.states w.arcs dig mean (e.registered rooted_reg) in
-            registered_still c.push-along-left.new.core c.extend.new.core v.slots v.states v.arcs dig mean pushed_reg;
+            let rooted_reg = registered_still b c.open_root.new.core o.slots o.states o.arcs dig mean reg in
+            let pushed_reg = registered_still c.close_beyond.new.core c.push_along-left.new.core w.slots w.states w.arcs dig mean (e.registered rooted_reg) in
+            registered_still c.push_along-left.new.core c.extend.new.core v.slots v.states v.arcs dig mean pushed_reg;
         holds = λ reg s.
-            let rooted_reg = registered_still b c.open-root.new.core o.slots o.states o.arcs dig mean reg in
-            let path : held mean c.close-beyond.new.core ≡ closed_beyond k d (rooted x h) = e.holds rooted_reg ∙ ap (closed_beyond k d) r.holds in
-            let known : held mean c.close-beyond.new.core ≡ closed_beyond k (common_length key (newest_key h.open')) (rooted x h) = path ∙ ap (λ (n : ℕ). closed_beyond k n (rooted x h)) a.shared in
-            let storable : PushHeldStorable k (held mean c.close-beyond.new.core) x = subst (λ (z : Held k.Ideal). PushHeldStorable k z x) (sym known) (steps_storable k key x h s) in
+            let rooted_reg = registered_still b c.open_root.new.core o.slots o.states o.arcs dig mean reg in
+            let path : held mean c.close_beyond.new.core ≡ closed_beyond k d (rooted x h) = e.holds rooted_reg ∙ ap (closed_beyond k d) r.holds in
+            let known : held mean c.close_beyond.new.core ≡ closed_beyond k (common_length key (newest_key h.open')) (rooted x h) = path ∙ ap (λ (n : ℕ). closed_beyond k n (rooted x h)) a.shared in
+            let storable : PushHeldStorable k (held mean c.close_beyond.new.core) x = subst (λ (z : Held k.Ideal). PushHeldStorable k z x) (sym known) (steps_storable k key x h s) in
             t.holds
             ∙ (λ i. extended k key d (p.left storable i) (p.holds storable i))
             ∙ ap (λ (z : Held k.Ideal). extended k key d (push_held k z x).1 (push_held k z x).0) path
@@ -114,7 +114,7 @@ returns g c =
       };
     }
 
-pub returns-in-err-depth : goal.returns-in-err-depth
-returns-in-err-depth g c =
-    let p = err_from_is_err_and c.from-residual.result c.from-residual.ensures.1 in
-    record { ready = c.requires.ready; rooms = record { states = refl; arcs = refl }; adds = rw (p.1, p.2) (c.in-err-depth.ensures, refl) }
+pub returns-in_err-depth : goal.returns-in_err-depth
+returns-in_err-depth g c =
+    let p = err_from_is_err_and c.from_residual.result c.from_residual.ensures.1 in
+    record { ready = c.requires.ready; rooms = record { states = refl; arcs = refl }; adds = rw (p.1, p.2) (c.in_err-depth.ensures, refl) }

@@ -4,8 +4,8 @@ use Rattle.records.proofs.Counting.{count_open}
 use Rattle.adding.proofs.NewestKey.{newest_length, newest_byte}
 use Rattle.adding.proofs.admission.byte.Goals as goal
 
-pub last-arc-requires : goal.last-arc-requires
-last-arc-requires g c =
+pub last_arc-requires : goal.last_arc-requires
+last_arc-requires g c =
     let mean = g.row.O-Output.meaning in
     let b = c.args.core.now in
     record { sound = c.requires.sound; opened = omega (arith, newest_length (held mean b).open', count_open mean b, c.requires.within) }
@@ -13,4 +13,4 @@ last-arc-requires g c =
 pub returns : goal.returns
 returns g c =
     let os = (held g.row.O-Output.meaning c.args.core.now).open' in
-    c.last-arc.ensures.byte ∙ newest_byte os c.args.place (omega (arith, newest_length os, c.requires.within))
+    c.last_arc.ensures.byte ∙ newest_byte os c.args.place (omega (arith, newest_length os, c.requires.within))

@@ -8,4 +8,4 @@ pub returns : goal.returns
 returns g c =
     let mean = g.row.O-Output.meaning in
     let b = c.args.core.now in
-    omega (arith, newest_length (held mean b).open', count_open mean b, c.highs.ensures, c.saturating-sub.ensures)
+    omega (arith, newest_length (held mean b).open', count_open mean b, c.highs.ensures, c.saturating_sub.ensures)

@@ -17,10 +17,10 @@ returns g c =
     let b = c.args.core.now in
     let hs = highs b.states in
     let L = lows b.arcs in
-    let x = c.at-high-top.result in
-    let t = c.at-high-top.ensures x in
+    let x = c.at_high-top.result in
+    let t = c.at_high-top.ensures x in
     let y : State g.row.O.Denot = record { ends = true; end = c.args.output; count = x.count; first = x.first; keys = x.keys } in
-    let s = c.set-high.ensures in
+    let s = c.set_high.ensures in
     let more = since_more b.pairs (b.pairs + 1) hs (omega arith) so.since in
     let key = since_at b.pairs hs 0 x c.requires.opened so.since t in
     let es = arcs_of mean L in

@@ -12,11 +12,11 @@ use Rattle.pushing.proofs.OneRecord.{records_newest}
 use Rattle.adding.proofs.LastRecord.{reverse_first, push_before, push_last_part}
 use Rattle.adding.proofs.extending.add_arc.Goals as goal
 
-pub overflow-add-top : goal.overflow-add-top
-overflow-add-top g c =
+pub overflow_add-top : goal.overflow_add-top
+overflow_add-top g c =
     let b = c.args.core.now in
-    let x = c.at-high-top.result in
-    let r = laid_at (length (lows b.arcs)) (highs b.states) 0 x c.requires.opened c.requires.sound.laid (c.at-high-top.ensures x) in
+    let x = c.at_high-top.result in
+    let r = laid_at (length (lows b.arcs)) (highs b.states) 0 x c.requires.opened c.requires.sound.laid (c.at_high-top.ensures x) in
     let m : x.count + 1 < 131073 = omega (arith, r.0, c.requires.room, c.requires.sound.arcfew) in search rules
 
 pub returns : goal.returns
@@ -27,21 +27,21 @@ returns g c =
     let b = c.args.core.now in
     let hs = highs b.states in
     let L = lows b.arcs in
-    let x = c.at-high-top.result in
-    let t = c.at-high-top.ensures x in
+    let x = c.at_high-top.result in
+    let t = c.at_high-top.ensures x in
     let y : State g.row.O.Denot = record { ends = x.ends; end = x.end; count = x.count + 1; first = x.first; keys = x.keys } in
-    let s = c.set-high.ensures in
-    let p = c.push-low.ensures in
+    let s = c.set_high.ensures in
+    let p = c.push_low.ensures in
     let v = mean c.args.output in
     let e : Edge k.Ideal = record { byte = c.args.byte; target = 0; output = v } in
     let es = arcs_of mean L in
     let key = since_at b.pairs hs 0 x c.requires.opened so.since t in
     let at = laid_at (length L) hs 0 x c.requires.opened so.laid t in
-    let n : length (highs c.set-high.new.self) ≡ length hs = ap length s.highs ∙ length-set _ _ _ in
-    let m : length (lows c.push-low.new.self) ≡ length L + 1 = ap length p.lows ∙ length_push _ _ in
-    let w : arcs_of mean (lows c.push-low.new.self) ≡ es ++ (e ∷ []) = ap (arcs_of mean) p.lows ∙ map_push (arc_of mean) L _ in
-    let l : Led (length (lows c.push-low.new.self)) (highs c.set-high.new.self) =
-    subst (λ (j : ℕ). Led j (highs c.set-high.new.self)) (sym m) (subst (Led (length L + 1)) (sym s.highs) (led_more (length L) hs y x c.requires.opened so.laid t refl refl)) in
+    let n : length (highs c.set_high.new.self) ≡ length hs = ap length s.highs ∙ length-set _ _ _ in
+    let m : length (lows c.push_low.new.self) ≡ length L + 1 = ap length p.lows ∙ length_push _ _ in
+    let w : arcs_of mean (lows c.push_low.new.self) ≡ es ++ (e ∷ []) = ap (arcs_of mean) p.lows ∙ map_push (arc_of mean) L _ in
+    let l : Led (length (lows c.push_low.new.self)) (highs c.set_high.new.self) =
+    subst (λ (j : ℕ). Led j (highs c.set_high.new.self)) (sym m) (subst (Led (length L + 1)) (sym s.highs) (led_more (length L) hs y x c.requires.opened so.laid t refl refl)) in
     let q : length es ≡ length L = length-map L (arc_of mean) in
     let here : take (x.count + 1) (drop x.first (es ++ (e ∷ []))) ≡ take x.count (drop x.first es) ++ (e ∷ []) = push_last_part es e x.first x.count (newest_end L hs x c.requires.opened so.laid t ∙ sym q) in
     record {
@@ -59,7 +59,7 @@ returns g c =
       openings = n;
       arcs = m;
       led = l;
-      records = ap (λ (xs : List (State g.row.O.Denot)). reverse (map (open_record mean (arcs_of mean (lows c.push-low.new.self))) xs)) s.highs
+      records = ap (λ (xs : List (State g.row.O.Denot)). reverse (map (open_record mean (arcs_of mean (lows c.push_low.new.self))) xs)) s.highs
           ∙ ap (λ (fs : List (Edge k.Ideal)). reverse (map (open_record mean fs) (set hs 0 y))) w
           ∙ ap reverse (records_newest mean es (es ++ (e ∷ [])) x y (add_arc k c.args.byte v) (λ i j h. push_before es e i j (omega (arith, at.0, q))) (λ i. record { end = end_of mean x; arcs = here i; since = x.keys }) (length L) hs so.laid c.requires.opened t)
           ∙ reverse_first (add_arc k c.args.byte v) (map (open_record mean es) hs);

@@ -12,8 +12,8 @@ pub returns-then-highs-eq0 : goal.returns-then-highs-eq0
 returns-then-highs-eq0 g c =
     let mean = g.row.O-Output.meaning in
     let b = c.args.core.now in
-    let a = c.open-record.new.core in
-    let e = c.open-record.ensures in
+    let a = c.open_record.new.core in
+    let e = c.open_record.ensures in
     let w = e.keeps in
     let h = held mean b in
     let none : h.open' ≡ [] = nil_from_length h.open' (omega (arith, count_open mean b, c.highs.ensures, c.if-highs-eq0.true)) in

@@ -21,16 +21,16 @@ ends : {O : Type 0} (b : Core O) (x : State O) → Sound b → 0 < openings b �
 ends b x so h e = laid_top (length (lows b.arcs)) (highs b.states) x h so.laid e
 
 pub offset-bounds-open-top : goal.offset-bounds-open-top
-offset-bounds-open-top g c = let x = c.at-high-top.result in omega (arith, ends c.args.core.now x c.requires.sound c.requires.top (c.at-high-top.ensures x), ap length c.below-open.ensures)
+offset-bounds-open-top g c = let x = c.at_high-top.result in omega (arith, ends c.args.core.now x c.requires.sound c.requires.top (c.at_high-top.ensures x), ap length c.below-open.ensures)
 
 pub slice-bounds-arcs-count : goal.slice-bounds-arcs-count
-slice-bounds-arcs-count g c = let x = c.at-high-top.result in omega (arith, ends c.args.core.now x c.requires.sound c.requires.top (c.at-high-top.ensures x), ap length c.below-open.ensures)
+slice-bounds-arcs-count g c = let x = c.at_high-top.result in omega (arith, ends c.args.core.now x c.requires.sound c.requires.top (c.at_high-top.ensures x), ap length c.below-open.ensures)
 
 pub slice-bounds-arcs-start : goal.slice-bounds-arcs-start
-slice-bounds-arcs-start g c = let x = c.at-high-top.result in omega (arith, ends c.args.core.now x c.requires.sound c.requires.top (c.at-high-top.ensures x), ap length c.below-open.ensures)
+slice-bounds-arcs-start g c = let x = c.at_high-top.result in omega (arith, ends c.args.core.now x c.requires.sound c.requires.top (c.at_high-top.ensures x), ap length c.below-open.ensures)
 
-pub look-up-requires : goal.look-up-requires
-look-up-requires g c =
+pub look_up-requires : goal.look_up-requires
+look_up-requires g c =
     let b = c.args.core.now in
     let so = c.requires.sound in
     let t = total b.states.cells.now b.states.low b.states.high so.stateroom in
@@ -47,7 +47,7 @@ returns g c =
     let mean = g.row.O-Output.meaning in
     let dig = g.row.O-Output.digested in
     let b = c.args.core.now in
-    let x = c.at-high-top.result in
+    let x = c.at_high-top.result in
     let L = lows b.arcs in
     let hs = highs b.states in
     let opens = c.below-open.result.now in
@@ -56,13 +56,13 @@ returns g c =
     let slots = b.slots.now in
     let arcs = arcs_of mean (take (length opens - x.first) (drop x.first opens)) in
     let node : Node g.row.O-Output.kind.Ideal = record { end = end_of mean x; arcs = arcs } in
-    let w = ends b x c.requires.sound c.requires.top (c.at-high-top.ensures x) in
+    let w = ends b x c.requires.sound c.requires.top (c.at_high-top.ensures x) in
     let part : arcs ≡ take x.count (drop x.first (arcs_of mean L)) = ap (arcs_of mean) (part_to_end opens L x.first x.count c.below-open.ensures w) ∙ arcs_part mean x.count x.first L in
     let top = newest (opened mean b) in
-    let is : node ≡ top = (λ i. record { end = end_of mean x; arcs = part i }) ∙ sym (newest_is (open_record mean (arcs_of mean L)) hs x c.requires.top (c.at-high-top.ensures x)) in
+    let is : node ≡ top = (λ i. record { end = end_of mean x; arcs = part i }) ∙ sym (newest_is (open_record mean (arcs_of mean L)) hs x c.requires.top (c.at_high-top.ensures x)) in
     let f = closed_state mean (arcs_of mean (highs b.arcs)) in
     let there : (q : ℕ) → q < length below → closed_state mean (arcs_of mean above) (get_or below q x) ≡ state_at (closed_states mean b) q = λ q l.
     ap (λ (es : List (Arc g.row.O.Denot)). closed_state mean (arcs_of mean es) (get_or below q x)) c.above.ensures ∙ ap (λ (ss : List (State g.row.O.Denot)). f (get_or ss q x)) c.below.ensures ∙ sym (get_or-map f (lows b.states) q x _ (omega (arith, ap length c.below.ensures))) in
-    let t = told_as (length below) (λ q. node ≡ closed_state mean (arcs_of mean above) (get_or below q x)) (λ q. top ≡ state_at (closed_states mean b) q) slots c.first-slot-home.result c.look-up.result (λ q l e. sym is ∙ e ∙ there q l) (λ q l e. is ∙ e ∙ sym (there q l)) c.look-up.ensures in
-    subst (λ (n : ℕ). Told n (λ q. top ≡ state_at (closed_states mean b) q) slots (home dig (length slots) top) c.look-up.result) (ap length c.below.ensures)
-    (subst (λ (h : ℕ). Told (length below) (λ q. top ≡ state_at (closed_states mean b) q) slots h c.look-up.result) (c.first-slot-home.ensures.slot ∙ ap (home dig (length slots)) is) t)
+    let t = told_as (length below) (λ q. node ≡ closed_state mean (arcs_of mean above) (get_or below q x)) (λ q. top ≡ state_at (closed_states mean b) q) slots c.first_slot-home.result c.look_up.result (λ q l e. sym is ∙ e ∙ there q l) (λ q l e. is ∙ e ∙ sym (there q l)) c.look_up.ensures in
+    subst (λ (n : ℕ). Told n (λ q. top ≡ state_at (closed_states mean b) q) slots (home dig (length slots) top) c.look_up.result) (ap length c.below.ensures)
+    (subst (λ (h : ℕ). Told (length below) (λ q. top ≡ state_at (closed_states mean b) q) slots h c.look_up.result) (c.first_slot-home.ensures.slot ∙ ap (home dig (length slots)) is) t)

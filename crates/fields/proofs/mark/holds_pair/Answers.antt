@@ -8,6 +8,6 @@ use Rattle.fields.proofs.mark.holds_pair.Goals as goal
 pub returns : goal.returns
 returns g c =
     let bytes = g.S.Store.bytes c.args.store.now in
-    let number : c.from.result ≡ pair_number c.args.pair = ◌∙◌ {c = pair_number c.args.pair} c.from.ensures c.from-be-bytes.ensures in
-    let h = c.in-ok-number.ensures in
-    holds_number (spread bytes) c.args.place c.in-ok-number.number c.from.result (pair_number c.args.pair) (cut_at c.args.place bytes) h.0 h.2 number (omega arith)
+    let number : c.from.result ≡ pair_number c.args.pair = ◌∙◌ {c = pair_number c.args.pair} c.from.ensures c.from_be_bytes.ensures in
+    let h = c.in_ok-number.ensures in
+    holds_number (spread bytes) c.args.place c.in_ok-number.number c.from.result (pair_number c.args.pair) (cut_at c.args.place bytes) h.0 h.2 number (omega arith)

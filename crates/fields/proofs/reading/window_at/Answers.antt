@@ -7,10 +7,10 @@ use Rattle.fields.proofs.reading.window_at.Goals as goal
 pub returns : goal.returns
 returns g c =
     let w : c.max-width.result ≡ field_width c.args.width = omega arith in
-    window_there (g.S.Store.bytes c.args.store.now) c.args.place c.args.width c.max-width.result _ w (g.S.Store.short c.args.store.now) refl refl c.in-ok-row.ensures
+    window_there (g.S.Store.bytes c.args.store.now) c.args.place c.args.width c.max-width.result _ w (g.S.Store.short c.args.store.now) refl refl c.in_ok-row.ensures
 
-pub returns-in-err-row : goal.returns-in-err-row
-returns-in-err-row g c =
-    let p = err_from_is_err_and c.from-residual.result c.from-residual.ensures.1 in
+pub returns-in_err-row : goal.returns-in_err-row
+returns-in_err-row g c =
+    let p = err_from_is_err_and c.from_residual.result c.from_residual.ensures.1 in
     let w : c.max-width.result ≡ field_width c.args.width = omega arith in
-    rw (p.1, p.2) (window_lacks (g.S.Store.bytes c.args.store.now) c.args.place c.args.width c.max-width.result _ w c.in-err-row.ensures)
+    rw (p.1, p.2) (window_lacks (g.S.Store.bytes c.args.store.now) c.args.place c.args.width c.max-width.result _ w c.in_err-row.ensures)

@@ -4,19 +4,19 @@ use Rattle.loading.proofs.Walking.{is_passed, is_stopped}
 use Rattle.loading.proofs.IndexPass.{entries_more, entries_stop, entries_end}
 use Rattle.loading.proofs.head.pass_entries.Goals as goal
 
-pub returns-in-err-next : goal.returns-in-err-next
-returns-in-err-next g c =
+pub returns-in_err-next : goal.returns-in_err-next
+returns-in_err-next g c =
     let all = spread (g.S.Store.bytes c.args.store.now) in
     let inv = c.loop-i.invariant in
-    let h = entries_stop g.row.O-Output.kind all c.args.states c.args.index c.loop-i.i c.loop-i.place inv.3 c.in-err-next.field-0.0 (omega arith) c.in-err-next.ensures.answers in
-    let f = is_stopped _ c.in-err-next.field-0.0 c.from-residual.result _ h c.from-residual.ensures.1 in
+    let h = entries_stop g.row.O-Output.kind all c.args.states c.args.index c.loop-i.i c.loop-i.place inv.3 c.in_err-next.field-0.0 (omega arith) c.in_err-next.ensures.answers in
+    let f = is_stopped _ c.in_err-next.field-0.0 c.from_residual.result _ h c.from_residual.ensures.1 in
     record { passes = f.0; within = f.1 }
 
 pub loop-i-preserved : goal.loop-i-preserved
 loop-i-preserved g c =
     let all = spread (g.S.Store.bytes c.args.store.now) in
     let inv = c.loop-i.invariant in
-    let e = c.in-ok-next.ensures in (
+    let e = c.in_ok-next.ensures in (
       omega (arith, e.within.1, inv.0),
       omega (arith, e.within.1, e.within.2),
       e.within.3,

@@ -2,9 +2,9 @@ use Rattle.std.proofs.Common.{rules}
 use Rattle.images.specs.Loads.{end_output}
 use Rattle.loading.proofs.records.pass_end.Goals as goal
 
-pub returns-in-err--output : goal.returns-in-err--output
+pub returns-in_err--output : goal.returns-in_err--output
 unfolding end_output
-returns-in-err--output g c = search rules
+returns-in_err--output g c = search rules
 
 pub returns-then-flag-eq1 : goal.returns-then-flag-eq1
 unfolding end_output

@@ -8,25 +8,25 @@ use Rattle.loading.proofs.records.read_records.Goals as goal
 pub loop-state-init : goal.loop-state-init
 loop-state-init g c = (omega arith, (omega arith, omega arith), λ t l. absurd (omega arith), begins g.row.O-Output.kind (spread (g.S.Store.bytes c.args.store.now)) c.args.index c.args.states c.args.place c.args.working.now)
 
-pub returns-in-err-count : goal.returns-in-err-count
-returns-in-err-count g c =
+pub returns-in_err-count : goal.returns-in_err-count
+returns-in_err-count g c =
     let k = g.row.O-Output.kind in
     let all = spread (g.S.Store.bytes c.args.store.now) in
     let h = stops k all c.args.index c.args.states c.args.place c.loop-state.state c.loop-state.arcs c.loop-state.here c.loop-state.working c.loop-state.invariant.3
-    _ c.in-err-count.field-0.0 (omega arith) c.in-err-count.ensures.answers in
-    let f = is_refused (RecordsRead c.args.states _) _ c.in-err-count.field-0.0 c.from-residual.result _ h c.from-residual.ensures.1 in
+    _ c.in_err-count.field-0.0 (omega arith) c.in_err-count.ensures.answers in
+    let f = is_refused (RecordsRead c.args.states _) _ c.in_err-count.field-0.0 c.from_residual.result _ h c.from_residual.ensures.1 in
     record { answers = f.0; within = f.1 }
 
 pub loop-state-preserved : goal.loop-state-preserved
 loop-state-preserved g c =
     let k = g.row.O-Output.kind in
     let all = spread (g.S.Store.bytes c.args.store.now) in
-    let a = c.in-ok-count.ensures in (
+    let a = c.in_ok-count.ensures in (
       omega (arith, a.within.0),
       (a.within.1, a.within.2),
       below_more _ _ c.loop-state.invariant.2 a.within.3,
       more k all c.args.index c.args.states c.args.place c.loop-state.state c.loop-state.arcs c.loop-state.here c.loop-state.working c.loop-state.invariant.3
-          (c.in-ok-count.count, c.in-ok-count.behind) _ (omega arith) a.answers,
+          (c.in_ok-count.count, c.in_ok-count.behind) _ (omega arith) a.answers,
     )
 
 pub returns : goal.returns

@@ -8,4 +8,4 @@ returns g c = λ arc h.
     let k = g.row.O-Output.kind in
     let all = bits_of g.S.Store.bytes c.args.loaded.now in
     let e = c.further.ensures h.within in
-    subst (λ (n : ℕ). OutputRead k g.row.O-Output.meaning n arc.output c.output-at.result) e (c.output-at.ensures arc.output (subst (λ (n : ℕ). OutputStands k all n arc.output) (sym e) h.output))
+    subst (λ (n : ℕ). OutputRead k g.row.O-Output.meaning n arc.output c.output_at.result) e (c.output_at.ensures arc.output (subst (λ (n : ℕ). OutputStands k all n arc.output) (sym e) h.output))

@@ -8,9 +8,9 @@ returns-in-Some g c =
     let bytes = g.S.Store.bytes in
     let l = c.args.loaded.now in
     record {
-      keys = λ m h. keys_some g.row.O-Output.kind g.row.O-Output.meaning bytes l m h c.args.state c.in-Some.place c.number-in.result (c.in-Some.ensures.place m h) (λ w.
-          number_at bytes c.store.result.now l.store 20 (c.in-Some.place + 10) _ c.number-in.result c.store.ensures refl w c.number-in.ensures.value);
-      fits = c.number-in.ensures.fits;
+      keys = λ m h. keys_some g.row.O-Output.kind g.row.O-Output.meaning bytes l m h c.args.state c.in-Some.place c.number_in.result (c.in-Some.ensures.place m h) (λ w.
+          number_at bytes c.store.result.now l.store 20 (c.in-Some.place + 10) _ c.number_in.result c.store.ensures refl w c.number_in.ensures.value);
+      fits = c.number_in.ensures.fits;
     }
 
 pub returns-in-None : goal.returns-in-None

@@ -11,7 +11,7 @@ returns g c =
     let bytes = g.S.Store.bytes in
     let l = c.args.loaded.now in
     record {
-      place = λ m h. placed_some g.row.O-Output.kind g.row.O-Output.meaning bytes l m h c.args.state c.number-in.result (omega arith) (λ w.
-          number_at bytes c.store.result.now l.store 32 (l.index + 32 * c.args.state) _ c.number-in.result c.store.ensures (ap (λ (n : ℕ). n + 32 * c.args.state) c.index.ensures.place) w c.number-in.ensures.value);
-      fits = c.number-in.ensures.fits;
+      place = λ m h. placed_some g.row.O-Output.kind g.row.O-Output.meaning bytes l m h c.args.state c.number_in.result (omega arith) (λ w.
+          number_at bytes c.store.result.now l.store 32 (l.index + 32 * c.args.state) _ c.number_in.result c.store.ensures (ap (λ (n : ℕ). n + 32 * c.args.state) c.index.ensures.place) w c.number_in.ensures.value);
+      fits = c.number_in.ensures.fits;
     }

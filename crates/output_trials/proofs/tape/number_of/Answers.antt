@@ -4,11 +4,11 @@ use Rattle.outputs.specs.Bits.{bit, value}
 use Rattle.output_trials.proofs.Rows.{value_more, one_more_fits, one_more_below, bit_of, bit_small}
 use Rattle.output_trials.proofs.tape.number_of.Goals as goal
 
-pub overflow-mul-number : goal.overflow-mul-number
-overflow-mul-number c = omega (arith, one_more_fits c.loop-bit.number c.loop-bit.bit-index c.loop-bit.invariant.1 (omega arith))
+pub overflow_mul-number : goal.overflow_mul-number
+overflow_mul-number c = omega (arith, one_more_fits c.loop-bit.number c.loop-bit.bit-index c.loop-bit.invariant.1 (omega arith))
 
-pub overflow-add-number : goal.overflow-add-number
-overflow-add-number c =
+pub overflow_add-number : goal.overflow_add-number
+overflow_add-number c =
     let b = get_or c.args.row.now c.loop-bit.bit-index false in
     let e : c.from.result ≡ bit b = c.from.ensures ∙ bit_of b in
     omega (arith, e, bit_small b, one_more_fits c.loop-bit.number c.loop-bit.bit-index c.loop-bit.invariant.1 (omega arith))

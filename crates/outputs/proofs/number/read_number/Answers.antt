@@ -6,11 +6,11 @@ use Rattle.outputs.specs.BitRows.{length_bits}
 use Rattle.outputs.proofs.FieldReads.{read_there, read_cut, by_reading}
 use Rattle.outputs.proofs.number.read_number.Goals as goal
 
-pub returns-in-err-value : goal.returns-in-err-value
-returns-in-err-value g c =
-    let p = err_from_is_err_and c.from-residual.result c.from-residual.ensures.1 in
-    let h = c.in-err-value.ensures in
-    by_reading numbers _ c.args.place _ c.from-residual.result (read_cut (g.B.BitSource.all c.args.source.now) c.args.place 32 (lit< tt) h.0) (rw (p.1, p.2, h.1) refl)
+pub returns-in_err-value : goal.returns-in_err-value
+returns-in_err-value g c =
+    let p = err_from_is_err_and c.from_residual.result c.from_residual.ensures.1 in
+    let h = c.in_err-value.ensures in
+    by_reading numbers _ c.args.place _ c.from_residual.result (read_cut (g.B.BitSource.all c.args.source.now) c.args.place 32 (lit< tt) h.0) (rw (p.1, p.2, h.1) refl)
 
 pub returns : goal.returns
 returns g c =

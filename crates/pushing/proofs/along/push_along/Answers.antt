@@ -18,8 +18,8 @@ loop-d-init g c =
     let b = c.args.core.now in
     (shape_none (started b c.common-shared.result) (sound_started b c.common-shared.result c.requires.sound), refl, λ s. (refl, s))
 
-pub push-step-on-requires : goal.push-step-on-requires
-push-step-on-requires g c =
+pub push_step-on-requires : goal.push_step-on-requires
+push_step-on-requires g c =
     let inv = c.loop-d.invariant in
     record { sound = inv.0.keeps.sound; opened = omega (arith, inv.0.openings, c.requires.opened) }
 
@@ -29,9 +29,9 @@ loop-d-preserved g c =
     let mean = g.row.O-Output.meaning in
     let b = started c.args.core.now c.common-shared.result in
     let m = c.loop-d.core in
-    let a = c.push-step-on.new.core in
-    let r = c.push-step-on.result in
-    let e = c.push-step-on.ensures in
+    let a = c.push_step-on.new.core in
+    let r = c.push_step-on.result in
+    let e = c.push_step-on.ensures in
     let inv = c.loop-d.invariant in
     let d = c.loop-d.d in
     let os = (held mean m).open' in
@@ -48,8 +48,8 @@ loop-d-preserved g c =
           ),
     )
 
-pub push-record-requires : goal.push-record-requires
-push-record-requires g c =
+pub push_record-requires : goal.push_record-requires
+push_record-requires g c =
     let inv = c.loop-d.invariant in
     record { sound = inv.0.keeps.sound; opened = omega (arith, inv.0.openings, c.requires.opened) }
 
@@ -60,8 +60,8 @@ returns g c =
     let I = k.Ideal in
     let b = c.args.core.now in
     let m = c.loop-d.core in
-    let a = c.push-record.new.core in
-    let e = c.push-record.ensures in
+    let a = c.push_record.new.core in
+    let e = c.push_record.ensures in
     let inv = c.loop-d.invariant in
     let depth = c.args.depth in
     let x = mean c.args.output in

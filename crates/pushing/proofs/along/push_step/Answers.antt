@@ -19,15 +19,15 @@ returns g c =
     let d = c.args.depth in
     let b = c.args.core.now in
     let os = (held mean b).open' in
-    let p = c.push-record.ensures in
+    let p = c.push_record.ensures in
     let q = c.lead.ensures in
     let sh = mean c.common-shared.result in
     let h : d < length os = omega (arith, count_open mean b, c.requires.opened) in
     record {
-      shape = shape_both b c.push-record.new.core c.lead.new.core p.shape q.shape;
+      shape = shape_both b c.push_record.new.core c.lead.new.core p.shape q.shape;
       start = q.start ∙ p.start;
       steps = λ joins.
-          let w : mean c.last-arc.result.output ≡ whole k carry left (at_depth k d os) = c.last-arc.ensures.output ∙ ap (λ (ns : List (Open k.Ideal)). last_output k (arcs_at d ns)) (p.records joins) ∙ ap (λ (o : Open k.Ideal). last_output k o.arcs) (alter_at (push k carry) d os (blank 0) h) in
+          let w : mean c.last_arc.result.output ≡ whole k carry left (at_depth k d os) = c.last_arc.ensures.output ∙ ap (λ (ns : List (Open k.Ideal)). last_output k (arcs_at d ns)) (p.records joins) ∙ ap (λ (o : Open k.Ideal). last_output k o.arcs) (alter_at (push k carry) d os (blank 0) h) in
           let s : sh ≡ shared k carry left (at_depth k d os) = c.common-shared.ensures ∙ ap (λ (z : k.Ideal). k.common z left) w in
           record {
             records = q.records ∙ ap (alter d (lead k sh)) (p.records joins) ∙ alter_twice (lead k sh) (push k carry) d os

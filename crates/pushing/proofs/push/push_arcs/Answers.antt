@@ -25,15 +25,15 @@ loop-i-preserved g c =
     let inv = c.loop-i.invariant in
     let w = inv.0.keeps in
     let so = w.sound in
-    let a = c.at-low-arc.result in
-    let s = c.set-low.ensures in
+    let a = c.at_low-arc.result in
+    let s = c.set_low.ensures in
     let k : i < length xs = omega (arith, inv.0.arcs) in
     let n : i < length (arcs_of mean xs) = simp length-map k in
-    let q : arc_of mean a ≡ get_or (arcs_of mean xs) i (arc_of mean a) = ap (arc_of mean) (c.at-low-arc.ensures a) ∙ sym (get_or-map (arc_of mean) xs i a (arc_of mean a) k) in
+    let q : arc_of mean a ≡ get_or (arcs_of mean xs) i (arc_of mean a) = ap (arc_of mean) (c.at_low-arc.ensures a) ∙ sym (get_or-map (arc_of mean) xs i a (arc_of mean a) k) in
     let v = ap (arcs_of mean) s.lows ∙ map-set (arc_of mean) xs i _ in
     let put_at : g.row.O-Output.kind.Ideal → List (Edge g.row.O-Output.kind.Ideal) = λ y. set (arcs_of mean xs) i (record { byte = a.byte; target = a.target; output = y }) in
     let u = ap put_at c.join-output.ensures in
-    let l : length (lows c.set-low.new.self) ≡ length xs = ap length s.lows ∙ length-set _ _ _ in (
+    let l : length (lows c.set_low.new.self) ≡ length xs = ap length s.lows ∙ length-set _ _ _ in (
       record {
         keeps = record {
           sound = moved b _ refl refl s.highs so refl s.capacity so.stateroom s.room (subst (λ (m : ℕ). Laid m (highs b.states)) (sym l) so.laid) so.since so.paired;

@@ -18,21 +18,21 @@ loop-byte-init g c = λ m h.
     let s = at_below m.states q inside in
     (ap (λ (n : ℕ). rank_from m.states (counts_of m.states) n 0 c.args.key.now) (sym (c.start-state.ensures.state ∙ h.start)), omega (arith, stored.few_keys q s.0 s.1))
 
-pub returns-in-err-next : goal.returns-in-err-next
-returns-in-err-next g c = λ m h.
-    ap told_rank c.from-residual.ensures
-    ∙ sym (rank_stops m.states (counts_of m.states) c.args.key.now c.loop-byte.byte-index c.loop-byte.state _ c.loop-byte.keys c.loop-byte-test.true refl _ (c.loop-byte.invariant m h).0 (c.in-err-next.ensures m h))
+pub returns-in_err-next : goal.returns-in_err-next
+returns-in_err-next g c = λ m h.
+    ap told_rank c.from_residual.ensures
+    ∙ sym (rank_stops m.states (counts_of m.states) c.args.key.now c.loop-byte.byte-index c.loop-byte.state _ c.loop-byte.keys c.loop-byte-test.true refl _ (c.loop-byte.invariant m h).0 (c.in_err-next.ensures m h))
 
 pub loop-byte-preserved : goal.loop-byte-preserved
 loop-byte-preserved g c = λ m h.
     let q = c.loop-byte.state in
     let counts = counts_of m.states in
-    let next = c.in-ok-next.next in
+    let next = c.in_ok-next.next in
     let stored = held_stored g.row.O-Output.kind g.row.O-Output.meaning g.S.Store.bytes c.args.loaded.now m h in
     let few : c.loop-byte.keys + get_or counts q 0 < 2 ^ 20 = (c.loop-byte.invariant m h).1 in
-    let within : next.keys + get_or counts next.target 0 ≤ get_or counts q 0 = lower_within m.states counts (at m.states q) _ (get_or counts q 0) next (λ s e. stored.counted q s e) (c.in-ok-next.ensures m h) in
-    let sum : c.saturating-add-keys.result ≡ c.loop-byte.keys + next.keys = omega (arith, few, within, c.saturating-add-keys.ensures) in (
-      rank_goes m.states counts c.args.key.now c.loop-byte.byte-index q _ c.loop-byte.keys c.loop-byte-test.true refl _ (c.loop-byte.invariant m h).0 next (c.in-ok-next.ensures m h) c.saturating-add-keys.result sum,
+    let within : next.keys + get_or counts next.target 0 ≤ get_or counts q 0 = lower_within m.states counts (at m.states q) _ (get_or counts q 0) next (λ s e. stored.counted q s e) (c.in_ok-next.ensures m h) in
+    let sum : c.saturating_add-keys.result ≡ c.loop-byte.keys + next.keys = omega (arith, few, within, c.saturating_add-keys.ensures) in (
+      rank_goes m.states counts c.args.key.now c.loop-byte.byte-index q _ c.loop-byte.keys c.loop-byte-test.true refl _ (c.loop-byte.invariant m h).0 next (c.in_ok-next.ensures m h) c.saturating_add-keys.result sum,
       omega (arith, few, within, sum),
     )
 

@@ -6,17 +6,17 @@ use Rattle.lookups.specs.Lookups.{bits_of}
 use Rattle.reading.proofs.Ways.{err_walk, step_lacks, step_refuses, step_joins}
 use Rattle.reading.proofs.walking.step.Goals as goal
 
-pub returns-in-default-arc-output : goal.returns-in-default-arc-output
-returns-in-default-arc-output g c = λ m h.
-    step_lacks g.row.O-Output.kind (bits_of g.S.Store.bytes c.args.loaded.now) (g.row.O-Output.meaning c.args.output) (arc_at (at m.states c.args.state) c.args.byte) c.in-Some.place (c.in-Some.ensures m h) c.in-default-arc-output.ensures
+pub returns-in-default-arc_output : goal.returns-in-default-arc_output
+returns-in-default-arc_output g c = λ m h.
+    step_lacks g.row.O-Output.kind (bits_of g.S.Store.bytes c.args.loaded.now) (g.row.O-Output.meaning c.args.output) (arc_at (at m.states c.args.state) c.args.byte) c.in-Some.place (c.in-Some.ensures m h) c.in-default-arc_output.ensures
 
-pub returns-in-err-output : goal.returns-in-err-output
-returns-in-err-output g c = λ m h.
-    err_walk g.row.O-Output.meaning c.from-residual.result c.from-residual.ensures.0
+pub returns-in_err-output : goal.returns-in_err-output
+returns-in_err-output g c = λ m h.
+    err_walk g.row.O-Output.meaning c.from_residual.result c.from_residual.ensures.0
     ∙ step_refuses g.row.O-Output.kind (bits_of g.S.Store.bytes c.args.loaded.now) (g.row.O-Output.meaning c.args.output) (arc_at (at m.states c.args.state) c.args.byte) c.in-Some.place _ (c.in-Some.ensures m h)
-    (λ arc s. (c.in-Some-arc-output.ensures arc s).0) c.in-err-output.ensures
+    (λ arc s. (c.in-Some-arc_output.ensures arc s).0) c.in_err-output.ensures
 
 pub returns : goal.returns
 returns g c = λ m h.
-    step_joins g.row.O-Output.kind (bits_of g.S.Store.bytes c.args.loaded.now) (g.row.O-Output.meaning c.args.output) (arc_at (at m.states c.args.state) c.args.byte) c.in-Some.place c.target-at-state.result _ (gives (g.row.O-Output.meaning c.in-ok-output.output)) (c.in-Some.ensures m h)
-    (λ arc s. (c.in-Some-arc-output.ensures arc s).0) c.target-at-state.ensures.target c.in-ok-output.ensures
+    step_joins g.row.O-Output.kind (bits_of g.S.Store.bytes c.args.loaded.now) (g.row.O-Output.meaning c.args.output) (arc_at (at m.states c.args.state) c.args.byte) c.in-Some.place c.target_at-state.result _ (gives (g.row.O-Output.meaning c.in_ok-output.output)) (c.in-Some.ensures m h)
+    (λ arc s. (c.in-Some-arc_output.ensures arc s).0) c.target_at-state.ensures.target c.in_ok-output.ensures

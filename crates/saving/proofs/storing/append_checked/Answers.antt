@@ -21,8 +21,8 @@ returns-then-spare-to g c =
       follows = g.S.Store.chained.stay old;
     }
 
-pub append-image-requires : goal.append-image-requires
-append-image-requires g c =
+pub append_image-requires : goal.append_image-requires
+append_image-requires g c =
     let old = c.args.store.now in
     let row = bits_of g.row.O-Output.kind g.row.O-Output.meaning c.args.rows.now in
     record {
@@ -35,14 +35,14 @@ returns g c =
     let rows = c.args.rows.now in
     let old = c.args.store.now in
     let row = bits_of g.row.O-Output.kind g.row.O-Output.meaning rows in
-    let done = c.append-image.ensures in
+    let done = c.append_image.ensures in
     let some_keys : 0 < rows.keys = omega arith in
     let fits : length (g.S.Store.bytes old) + length (packed row) ≤ g.S.Store.room old =
     omega (arith, length_packed row, c.requires.place, c.requires.size, c.requires.spare, c.if-spare-to.false, (g.S.Store.sound old).within) in
     let size : c.args.to.length ≡ length (packed row) = omega (arith, length_packed row, c.requires.size) in
     record {
       image = (some_keys, fits, done.bytes, c.requires.place, size);
-      pairs = saves_pairs g.S.Store.bytes g.S.Store.room g.row.O-Output.kind g.row.O-Output.meaning rows old c.append-image.new.store
+      pairs = saves_pairs g.S.Store.bytes g.S.Store.room g.row.O-Output.kind g.row.O-Output.meaning rows old c.append_image.new.store
           (Ok c.args.to) (some_keys, fits, done.bytes, c.requires.place, size);
       capacity = done.room;
       follows = done.follows;

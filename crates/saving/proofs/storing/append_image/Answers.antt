@@ -9,10 +9,10 @@ use Rattle.saving.proofs.storing.append_image.Goals as goal
 pub returns : goal.returns
 returns g c =
     let first = c.new-packer.ensures in
-    let (packs, grown) = c.write-image.ensures in
+    let (packs, grown) = c.write_image.ensures in
     let done = c.finish.ensures in
     let s = c.new-packer.result in
-    let t = c.write-image.new.sink in
+    let t = c.write_image.new.sink in
     let u = c.finish.new.self in
     let old = c.args.store.now in
     let row = bits_of g.row.O-Output.kind g.row.O-Output.meaning c.args.rows.now in

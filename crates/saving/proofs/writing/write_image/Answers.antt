@@ -6,19 +6,19 @@ use Rattle.saving.specs.Standing.{machine_of}
 use Rattle.saving.proofs.Laid.{records_same, image_length, image_small}
 use Rattle.saving.proofs.writing.write_image.Goals as goal
 
-pub overflow-add-base : goal.overflow-add-base
-overflow-add-base g c =
+pub overflow_add-base : goal.overflow_add-base
+overflow_add-base g c =
     let rows = c.args.rows.now in
     let small = image_small g.row.O-Output.kind g.row.O-Output.meaning g.met.O.Output.lawful g.met.O.Output.stored rows c.requires.shaped in
-    omega (arith, c.head-length.ensures, small, image_length g.row.O-Output.kind g.row.O-Output.meaning g.met.O.Output.lawful g.met.O.Output.stored rows c.requires.shaped)
+    omega (arith, c.head_length.ensures, small, image_length g.row.O-Output.kind g.row.O-Output.meaning g.met.O.Output.lawful g.met.O.Output.stored rows c.requires.shaped)
 
-pub write-index-requires : goal.write-index-requires
-write-index-requires g c =
+pub write_index-requires : goal.write_index-requires
+write_index-requires g c =
     let rows = c.args.rows.now in
     let small = image_small g.row.O-Output.kind g.row.O-Output.meaning g.met.O.Output.lawful g.met.O.Output.stored rows c.requires.shaped in
     record {
       shaped = c.requires.shaped;
-      small = omega (arith, c.head-length.ensures, small, image_length g.row.O-Output.kind g.row.O-Output.meaning g.met.O.Output.lawful g.met.O.Output.stored rows c.requires.shaped);
+      small = omega (arith, c.head_length.ensures, small, image_length g.row.O-Output.kind g.row.O-Output.meaning g.met.O.Output.lawful g.met.O.Output.stored rows c.requires.shaped);
     }
 
 pub returns : goal.returns
@@ -27,8 +27,8 @@ returns g c =
     let mean = g.row.O-Output.meaning in
     let rows = c.args.rows.now in
     let head = head_bits k (machine_of k mean rows) rows.keys in
-    let base : c.head-length.result + 32 * length rows.states.now ≡ length head + 32 * length (machine_of k mean rows).states =
-    omega (arith, c.head-length.ensures, length-map rows.states.now (closed_state mean (arcs_of mean rows.arcs.now))) in
-    subst (λ row. g.K.BitSink.took c.args.sink.now row c.write-records.new.sink)
+    let base : c.head_length.result + 32 * length rows.states.now ≡ length head + 32 * length (machine_of k mean rows).states =
+    omega (arith, c.head_length.ensures, length-map rows.states.now (closed_state mean (arcs_of mean rows.arcs.now))) in
+    subst (λ row. g.K.BitSink.took c.args.sink.now row c.write_records.new.sink)
     (ap₂ (λ b rs. head ++ index_bits (places b rs) ++ in_turn rs) base (sym (records_same k mean rows.arcs.now rows.states.now)))
-    (g.K.BitSink.taking.in_turn _ _ _ _ _ (g.K.BitSink.taking.in_turn _ _ _ _ _ c.write-head.ensures c.write-index.ensures) c.write-records.ensures)
+    (g.K.BitSink.taking.in_turn _ _ _ _ _ (g.K.BitSink.taking.in_turn _ _ _ _ _ c.write_head.ensures c.write_index.ensures) c.write_records.ensures)

@@ -13,8 +13,8 @@ overflow-cast-place g c =
     let f = record_of g.row.O-Output.kind g.row.O-Output.meaning rows.arcs.now in
     omega (arith, c.loop-state.invariant.1, records_within f rows.states.now c.loop-state.state-index, c.requires.small)
 
-pub place-behind-place-requires : goal.place-behind-place-requires
-place-behind-place-requires g c =
+pub place_behind-place-requires : goal.place_behind-place-requires
+place_behind-place-requires g c =
     let rows = c.args.rows.now in
     let f = record_of g.row.O-Output.kind g.row.O-Output.meaning rows.arcs.now in
     let n = length rows.arcs.now in
@@ -36,7 +36,7 @@ loop-state-preserved g c =
     let (taken, place) = c.loop-state.invariant in
     let entry = subst (λ v. took c.loop-state.sink (bits 32 v) c.put.new.self) place c.put.ensures in (
       subst (λ row. took c.args.sink.now row c.put.new.self) (index_more f c.args.base rows.states.now i x (omega arith)) (g.K.BitSink.taking.in_turn _ _ _ _ _ taken entry),
-      omega (arith, place, c.place-behind-place.ensures, length-append (in_turn before) (f x), ap length (records_more f rows.states.now i x (omega arith) c.state-item.is)),
+      omega (arith, place, c.place_behind-place.ensures, length-append (in_turn before) (f x), ap length (records_more f rows.states.now i x (omega arith) c.state-item.is)),
     )
 
 pub returns : goal.returns

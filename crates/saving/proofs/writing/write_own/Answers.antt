@@ -13,4 +13,4 @@ returns g c =
     let s = c.args.state.now in
     let flag = subst (λ v. took c.args.sink.now (bits 1 v) c.put.new.self) (c.from.ensures ∙ flag_of s.ends (mean s.end)) c.put.ensures in
     let count = subst (λ v. took c.put.new.self (bits 9 v) c.put-2.new.self) (sym (length-map c.args.own.now (arc_of mean) ∙ c.requires.own)) c.put-2.ensures in
-    taking.in_turn _ _ _ _ _ (taking.in_turn _ _ _ _ _ (taking.in_turn _ _ _ _ _ (taking.in_turn _ _ _ _ _ flag count) c.put-3.ensures) c.write-end.ensures) c.write-arcs.ensures
+    taking.in_turn _ _ _ _ _ (taking.in_turn _ _ _ _ _ (taking.in_turn _ _ _ _ _ (taking.in_turn _ _ _ _ _ flag count) c.put-3.ensures) c.write_end.ensures) c.write_arcs.ensures

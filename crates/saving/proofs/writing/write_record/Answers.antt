@@ -11,6 +11,6 @@ returns g c =
     let as' = c.args.arcs.now in
     let from : ℕ = length as' - s.first in
     let width : from + s.count - from ≡ s.count = omega arith in
-    subst (λ own. g.K.BitSink.took c.args.sink.now (record_bits g.row.O-Output.kind (record { end = end_of mean s; arcs = own }) s.keys) c.write-own.new.sink)
+    subst (λ own. g.K.BitSink.took c.args.sink.now (record_bits g.row.O-Output.kind (record { end = end_of mean s; arcs = own }) s.keys) c.write_own.new.sink)
     (ap (λ n. arcs_of mean (take n (drop from as'))) width ∙ arcs_part_last mean s.count s.first as')
-    c.write-own.ensures
+    c.write_own.ensures

@@ -6,8 +6,8 @@ use Rattle.saving.specs.Standing.{record_of}
 use Rattle.saving.proofs.Turns.{records_more}
 use Rattle.saving.proofs.writing.write_records.Goals as goal
 
-pub write-record-requires : goal.write-record-requires
-write-record-requires g c =
+pub write_record-requires : goal.write_record-requires
+write_record-requires g c =
     let rows = c.args.rows.now in
     let n = length rows.arcs.now in
     let p = placed_at n rows.states.now c.loop-state.state-index c.state-item.result (omega arith) (packed_placed 0 n rows.states.now c.requires.shaped.packed) c.state-item.is in
@@ -16,9 +16,9 @@ write-record-requires g c =
 pub loop-state-preserved : goal.loop-state-preserved
 loop-state-preserved g c =
     let rows = c.args.rows.now in
-    subst (λ row. g.K.BitSink.took c.args.sink.now row c.write-record.new.sink)
+    subst (λ row. g.K.BitSink.took c.args.sink.now row c.write_record.new.sink)
     (records_more (record_of g.row.O-Output.kind g.row.O-Output.meaning rows.arcs.now) rows.states.now c.loop-state.state-index c.state-item.result (omega arith) c.state-item.is)
-    (g.K.BitSink.taking.in_turn _ _ _ _ _ c.loop-state.invariant c.write-record.ensures)
+    (g.K.BitSink.taking.in_turn _ _ _ _ _ c.loop-state.invariant c.write_record.ensures)
 
 pub returns : goal.returns
 returns g c =

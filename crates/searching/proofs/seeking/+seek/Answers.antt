@@ -7,29 +7,29 @@ use Rattle.searching.proofs.SearchSteps.{seek_missing, seek_ends, seek_deep, pas
 use Rattle.searching.proofs.seeking.+seek.Goals as goal
 use Rattle.searching.proofs.seeking.+seek.Goals.{in-Some+in-default-seek, in_default}
 
-pub returns-in-err-opened : goal.returns-in-err-opened
-returns-in-err-opened g t c =
+pub returns-in_err-opened : goal.returns-in_err-opened
+returns-in_err-opened g t c =
     let k = g.row.O-Output.kind in
     let loaded = c.args.loaded.now in
     seek_missing k g.met.O.Output.lawful g.row.O-Output.meaning (bits_of g.S.Store.bytes loaded) (Holds k g.row.O-Output.meaning g.S.Store.bytes loaded)
     c.args.state (g.row.O-Output.meaning c.args.output.now) c.args.depth
-    c.args.buffer.now c.from-residual.result c.from-residual.ensures c.in-err-opened.ensures
+    c.args.buffer.now c.from_residual.result c.from_residual.ensures c.in_err-opened.ensures
 
-pub returns-then-ends-with : goal.returns-then-ends-with
-returns-then-ends-with g t c =
+pub returns-then-ends_with : goal.returns-then-ends_with
+returns-then-ends_with g t c =
     let k = g.row.O-Output.kind in
     let loaded = c.args.loaded.now in
     seek_ends k g.met.O.Output.lawful g.row.O-Output.meaning (bits_of g.S.Store.bytes loaded) (Holds k g.row.O-Output.meaning g.S.Store.bytes loaded)
-    c.args.state (g.row.O-Output.meaning c.args.output.now) c.args.depth c.in-ok-opened.opened c.in-ok-opened.ensures
-    c.ends-with.result c.ends-with.ensures c.if-ends-with.true c.requires.depth c.args.buffer.now
+    c.args.state (g.row.O-Output.meaning c.args.output.now) c.args.depth c.in_ok-opened.opened c.in_ok-opened.ensures
+    c.ends_with.result c.ends_with.ensures c.if-ends_with.true c.requires.depth c.args.buffer.now
 
 pub returns-then-depth-eq64 : goal.returns-then-depth-eq64
 returns-then-depth-eq64 g t c =
     let k = g.row.O-Output.kind in
     let loaded = c.args.loaded.now in
     seek_deep k g.met.O.Output.lawful g.row.O-Output.meaning (bits_of g.S.Store.bytes loaded) (Holds k g.row.O-Output.meaning g.S.Store.bytes loaded)
-    c.args.state (g.row.O-Output.meaning c.args.output.now) c.args.depth c.in-ok-opened.opened c.in-ok-opened.ensures
-    c.ends-with.result c.ends-with.ensures c.if-ends-with.false (omega arith) c.args.buffer.now
+    c.args.state (g.row.O-Output.meaning c.args.output.now) c.args.depth c.in_ok-opened.opened c.in_ok-opened.ensures
+    c.ends_with.result c.ends_with.ensures c.if-ends_with.false (omega arith) c.args.buffer.now
 
 pub loop-i-init : goal.loop-i-init
 loop-i-init g t c =
@@ -37,18 +37,18 @@ loop-i-init g t c =
     let loaded = c.args.loaded.now in (
       refl,
       passing_none k g.met.O.Output.lawful g.row.O-Output.meaning (bits_of g.S.Store.bytes loaded) (Holds k g.row.O-Output.meaning g.S.Store.bytes loaded)
-          c.args.state (g.row.O-Output.meaning c.args.output.now) c.args.depth c.in-ok-opened.opened c.in-ok-opened.ensures
-          c.arcs-of-row.result c.arcs-of-row.ensures,
+          c.args.state (g.row.O-Output.meaning c.args.output.now) c.args.depth c.in_ok-opened.opened c.in_ok-opened.ensures
+          c.arcs_of-row.result c.arcs_of-row.ensures,
     )
 
-pub returns-in-err-arc : goal.returns-in-err-arc
-returns-in-err-arc g t c =
+pub returns-in_err-arc : goal.returns-in_err-arc
+returns-in_err-arc g t c =
     let k = g.row.O-Output.kind in
     let loaded = c.args.loaded.now in
     seek_cut k g.met.O.Output.lawful g.row.O-Output.meaning (bits_of g.S.Store.bytes loaded) (Holds k g.row.O-Output.meaning g.S.Store.bytes loaded)
-    c.args.state (g.row.O-Output.meaning c.args.output.now) c.args.depth c.in-ok-opened.opened c.in-ok-opened.ensures
+    c.args.state (g.row.O-Output.meaning c.args.output.now) c.args.depth c.in_ok-opened.opened c.in_ok-opened.ensures
     c.loop-i.-i c.loop-i.row c.loop-i.invariant.1 c.args.buffer.now c.loop-i.buffer c.loop-i.invariant.0
-    c.from-residual-in-err-arc.result c.from-residual-in-err-arc.ensures c.loop-i-test.true c.in-err-arc.ensures
+    c.from_residual-in_err-arc.result c.from_residual-in_err-arc.ensures c.loop-i-test.true c.in_err-arc.ensures
 
 pub returns-in-Some-seek : goal.returns-in-Some-seek
 returns-in-Some-seek g t c =
@@ -56,9 +56,9 @@ returns-in-Some-seek g t c =
     let loaded = c.args.loaded.now in
     let room : c.args.depth < length c.args.buffer.now = omega arith in
     seek_found k g.met.O.Output.lawful g.row.O-Output.meaning (bits_of g.S.Store.bytes loaded) (Holds k g.row.O-Output.meaning g.S.Store.bytes loaded)
-    c.args.state (g.row.O-Output.meaning c.args.output.now) c.args.depth c.in-ok-opened.opened c.in-ok-opened.ensures
+    c.args.state (g.row.O-Output.meaning c.args.output.now) c.args.depth c.in_ok-opened.opened c.in_ok-opened.ensures
     c.loop-i.-i c.loop-i.row c.loop-i.invariant.1 c.args.buffer.now c.loop-i.buffer c.loop-i.invariant.0
-    (c.in-ok-arc.arc, c.in-ok-arc.behind) c.in-ok-arc.ensures c.in-Some.rest c.in-Some.ensures c.seek.new.buffer
+    (c.in_ok-arc.arc, c.in_ok-arc.behind) c.in_ok-arc.ensures c.in-Some.rest c.in-Some.ensures c.seek.new.buffer
     (λ m h s here. ((held_stored k g.row.O-Output.meaning g.S.Store.bytes loaded m h).states c.args.state s here).rising) c.in-Some-seek.end room c.in-Some-seek.ensures c.put.new.buffer c.put.ensures
 
 pub loop-i-preserved : goal.loop-i-preserved
@@ -69,17 +69,17 @@ loop-i-preserved g t c =
       | in-Some+in-default-seek w ↦ (
         w.buffer-is ∙ w.in-default-seek.ensures.0 ∙ c.loop-i.invariant.0,
         passing_behind k g.met.O.Output.lawful g.row.O-Output.meaning (bits_of g.S.Store.bytes loaded) (Holds k g.row.O-Output.meaning g.S.Store.bytes loaded)
-            c.args.state (g.row.O-Output.meaning c.args.output.now) c.args.depth c.in-ok-opened.opened c.in-ok-opened.ensures
+            c.args.state (g.row.O-Output.meaning c.args.output.now) c.args.depth c.in_ok-opened.opened c.in_ok-opened.ensures
             c.loop-i.-i c.loop-i.row c.loop-i.invariant.1 c.args.buffer.now c.loop-i.buffer c.loop-i.invariant.0
-            (c.in-ok-arc.arc, c.in-ok-arc.behind) c.in-ok-arc.ensures w.in-Some.rest w.in-Some.ensures w.seek.new.buffer
+            (c.in_ok-arc.arc, c.in_ok-arc.behind) c.in_ok-arc.ensures w.in-Some.rest w.in-Some.ensures w.seek.new.buffer
             w.in-default-seek.ensures,
       )
       | in_default w ↦ (
         w.buffer-is ∙ c.loop-i.invariant.0,
         passing_other k g.met.O.Output.lawful g.row.O-Output.meaning (bits_of g.S.Store.bytes loaded) (Holds k g.row.O-Output.meaning g.S.Store.bytes loaded)
-            c.args.state (g.row.O-Output.meaning c.args.output.now) c.args.depth c.in-ok-opened.opened c.in-ok-opened.ensures
+            c.args.state (g.row.O-Output.meaning c.args.output.now) c.args.depth c.in_ok-opened.opened c.in_ok-opened.ensures
             c.loop-i.-i c.loop-i.row c.loop-i.invariant.1 c.args.buffer.now c.loop-i.buffer c.loop-i.invariant.0
-            (c.in-ok-arc.arc, c.in-ok-arc.behind) c.in-ok-arc.ensures w.in-default.ensures,
+            (c.in_ok-arc.arc, c.in_ok-arc.behind) c.in_ok-arc.ensures w.in-default.ensures,
       )
     ]
 
@@ -88,6 +88,6 @@ returns g t c =
     let k = g.row.O-Output.kind in
     let loaded = c.args.loaded.now in
     seek_passed k g.met.O.Output.lawful g.row.O-Output.meaning (bits_of g.S.Store.bytes loaded) (Holds k g.row.O-Output.meaning g.S.Store.bytes loaded)
-    c.args.state (g.row.O-Output.meaning c.args.output.now) c.args.depth c.in-ok-opened.opened c.in-ok-opened.ensures
+    c.args.state (g.row.O-Output.meaning c.args.output.now) c.args.depth c.in_ok-opened.opened c.in_ok-opened.ensures
     c.loop-i.-i c.loop-i.row c.loop-i.invariant.1 c.args.buffer.now c.loop-i.buffer c.loop-i.invariant.0
-    c.ends-with.result c.ends-with.ensures c.if-ends-with.false (omega arith)
+    c.ends_with.result c.ends_with.ensures c.if-ends_with.false (omega arith)

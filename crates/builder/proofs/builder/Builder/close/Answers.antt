@@ -3,16 +3,16 @@ use Rattle.builder.proofs.Standing.{sealed_pairs}
 use Rattle.builder.proofs.Whole.{builder_sound}
 use Rattle.builder.proofs.builder.Builder.close.Goals as goal
 
-pub close-all-requires : goal.close-all-requires
-close-all-requires g c = record { sound = builder_sound c.args.self }
+pub close_all-requires : goal.close_all-requires
+close_all-requires g c = record { sound = builder_sound c.args.self }
 
-pub invariant-of-result : goal.invariant-of-result
-invariant-of-result g c =
-    let s = c.close-all.ensures.sound in
+pub invariant_of-result : goal.invariant_of-result
+invariant_of-result g c =
+    let s = c.close_all.ensures.sound in
     (s.stateroom, (s.arcroom, (s.few, (s.arcfew, (s.slotroom, (test_laid _ _ s.laid, (test_since _ _ s.since, (test_packed _ _ _ s.packed, (s.known, (s.used, (s.paired, tt)))))))))))
 
 pub returns : goal.returns
 returns g c = record {
-  closed = c.close-all.ensures.holds;
-  sealed = λ states arcs P s. sealed_pairs g.row.O-Output.kind g.met.O.Output.lawful g.row.O-Output.meaning g.row.O-Output.digested c.args.self.core c.close-all.new.core states arcs P s c.close-all.ensures.holds;
+  closed = c.close_all.ensures.holds;
+  sealed = λ states arcs P s. sealed_pairs g.row.O-Output.kind g.met.O.Output.lawful g.row.O-Output.meaning g.row.O-Output.digested c.args.self.core c.close_all.new.core states arcs P s c.close_all.ensures.holds;
 }

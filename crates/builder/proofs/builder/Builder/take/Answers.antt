@@ -7,8 +7,8 @@ use Rattle.builder.proofs.builder.Builder.take.Goals as goal
 pub add-requires : goal.add-requires
 add-requires g c = record { ready = builder_ready c.args.self.now }
 
-pub invariant-of-self : goal.invariant-of-self
-invariant-of-self g c =
+pub invariant_of-self : goal.invariant_of-self
+invariant_of-self g c =
     let r = c.add.ensures.ready in
     let s = r.sound in
     (s.stateroom, (s.arcroom, (s.few, (s.arcfew, (s.slotroom, (test_laid _ _ s.laid, (test_since _ _ s.since, (test_packed _ _ _ s.packed, (s.known, (s.used, (s.paired, (r.first, tt))))))))))))
@@ -24,7 +24,7 @@ returns g c =
     let before = c.args.self.now.core in
     let after = c.add.new.core in
     let e = c.add.ensures in
-    let octets = slice_octets key c.type-inv.key in
+    let octets = slice_octets key c.type_inv.key in
     record {
       rooms = e.rooms;
       adds = e.adds;

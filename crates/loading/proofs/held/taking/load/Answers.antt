@@ -2,16 +2,16 @@ use Rattle.std.proofs.Common.{ℕ, length, replicate, ap, ◌∙◌}
 use Rattle.loading.proofs.Takings.{load_refuses, load_reads}
 use Rattle.loading.proofs.held.taking.load.Goals as goal
 
-pub returns-in-err-head : goal.returns-in-err-head
-returns-in-err-head g c =
+pub returns-in_err-head : goal.returns-in_err-head
+returns-in_err-head g c =
     record {
-      loads = load_refuses g.row.O-Output.kind g.row.O-Output.meaning g.S.Store.bytes (length c.args.working.now) c.args.store c.in-err-head.field-0.0 c.from-residual.result c.in-err-head.ensures.answers c.from-residual.ensures.1;
-      cleared = c.clear.ensures ∙ ap (λ (n : ℕ). replicate {A = ℕ} n 0) c.read-whole-answer.auto.working;
+      loads = load_refuses g.row.O-Output.kind g.row.O-Output.meaning g.S.Store.bytes (length c.args.working.now) c.args.store c.in_err-head.field-0.0 c.from_residual.result c.in_err-head.ensures.answers c.from_residual.ensures.1;
+      cleared = c.clear.ensures ∙ ap (λ (n : ℕ). replicate {A = ℕ} n 0) c.read_whole-answer.auto.working;
     }
 
 pub returns : goal.returns
 returns g c =
     record {
-      loads = load_reads g.row.O-Output.kind g.row.O-Output.meaning g.S.Store.bytes (length c.args.working.now) c.args.store c.held.result c.in-ok-head.head c.in-ok-head.-behind c.held.ensures.store c.in-ok-head.ensures.within.0 c.held.ensures.start c.held.ensures.index c.held.ensures.output c.in-ok-head.ensures.answers;
-      cleared = c.clear.ensures ∙ ap (λ (n : ℕ). replicate {A = ℕ} n 0) c.read-whole-answer.auto.working;
+      loads = load_reads g.row.O-Output.kind g.row.O-Output.meaning g.S.Store.bytes (length c.args.working.now) c.args.store c.held.result c.in_ok-head.head c.in_ok-head.-behind c.held.ensures.store c.in_ok-head.ensures.within.0 c.held.ensures.start c.held.ensures.index c.held.ensures.output c.in_ok-head.ensures.answers;
+      cleared = c.clear.ensures ∙ ap (λ (n : ℕ). replicate {A = ℕ} n 0) c.read_whole-answer.auto.working;
     }

@@ -22,16 +22,16 @@ returns-else-len-le-LONGEST g c =
     let h = c.in-Ok.ensures in
     length_wrong (drop p all) (omega (arith, length-drop p all, h.0)) (omega (arith, h.2, c.if-len-le-LONGEST.false))
 
-pub returns-then-begins-length : goal.returns-then-begins-length
-returns-then-begins-length g c =
+pub returns-then-begins_length : goal.returns-then-begins_length
+returns-then-begins_length g c =
     let all = g.B.BitSource.all c.args.source.now in
     let p = c.args.place in
     let h = c.in-Err.ensures in
-    (h.1, length_begun (drop p all) (omega (arith, length-drop p all, h.0)) (sym c.begins-length.ensures ∙ c.if-begins-length.true))
+    (h.1, length_begun (drop p all) (omega (arith, length-drop p all, h.0)) (sym c.begins_length.ensures ∙ c.if-begins_length.true))
 
-pub returns-else-begins-length : goal.returns-else-begins-length
-returns-else-begins-length g c =
+pub returns-else-begins_length : goal.returns-else-begins_length
+returns-else-begins_length g c =
     let all = g.B.BitSource.all c.args.source.now in
     let p = c.args.place in
     let h = c.in-Err.ensures in
-    length_not_begun (drop p all) (omega (arith, length-drop p all, h.0)) (sym c.begins-length.ensures ∙ c.if-begins-length.false)
+    length_not_begun (drop p all) (omega (arith, length-drop p all, h.0)) (sym c.begins_length.ensures ∙ c.if-begins_length.false)

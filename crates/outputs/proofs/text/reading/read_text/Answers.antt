@@ -5,14 +5,14 @@ use Rattle.outputs.proofs.FieldReads.{by_reading}
 use Rattle.outputs.proofs.TextReads.{text_there, text_cut, code_length, length_octets}
 use Rattle.outputs.proofs.text.reading.read_text.Goals as goal
 
-pub returns-in-err-bytes : goal.returns-in-err-bytes
-returns-in-err-bytes g c =
+pub returns-in_err-bytes : goal.returns-in_err-bytes
+returns-in_err-bytes g c =
     let all = g.B.BitSource.all c.args.source.now in
     let p = c.args.place in
-    let err = err_from_is_err_and c.from-residual-in-err-bytes.result c.from-residual-in-err-bytes.ensures.1 in
-    let a = c.in-ok-len.ensures in
-    let b = c.in-err-bytes.ensures in
-    by_reading texts _ p _ c.from-residual-in-err-bytes.result (text_cut all p c.in-ok-len.len a.3 a.1 b.0)
+    let err = err_from_is_err_and c.from_residual-in_err-bytes.result c.from_residual-in_err-bytes.ensures.1 in
+    let a = c.in_ok-len.ensures in
+    let b = c.in_err-bytes.ensures in
+    by_reading texts _ p _ c.from_residual-in_err-bytes.result (text_cut all p c.in_ok-len.len a.3 a.1 b.0)
     (rw (err.1, err.2, b.1, g.B.BitSource.steady c.args.source.now (p + 5) p a.1 (omega (arith, a.1))) refl)
 
 pub returns : goal.returns

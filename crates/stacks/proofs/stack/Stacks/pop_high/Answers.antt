@@ -16,5 +16,5 @@ returns g c =
 pub bounds-self-n : goal.bounds-self-n
 bounds-self-n g c = let s = c.args.self.now in omega (arith, length_high s.cells.now s.low s.high c.requires.room, c.requires.room, c.requires.fits)
 
-pub overflow-sub-self : goal.overflow-sub-self
-overflow-sub-self g c = let s = c.args.self.now in omega (arith, length_high s.cells.now s.low s.high c.requires.room, c.requires.room, c.requires.fits)
+pub overflow_sub-self : goal.overflow_sub-self
+overflow_sub-self g c = let s = c.args.self.now in omega (arith, length_high s.cells.now s.low s.high c.requires.room, c.requires.room, c.requires.fits)

@@ -14,8 +14,8 @@ returns g c =
       room = simp length-set c.requires.room;
     }
 
-pub overflow-add-x : goal.overflow-add-x
-overflow-add-x g c =
+pub overflow_add-x : goal.overflow_add-x
+overflow_add-x g c =
     let s = c.args.self.now in
     let l = length_high s.cells.now s.low s.high c.requires.room in
     let k : c.args.i < s.high = omega arith in

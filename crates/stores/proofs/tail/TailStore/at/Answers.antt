@@ -3,8 +3,8 @@ use Rattle.stores.specs.Tails.{start}
 use Rattle.stores.proofs.Tailing.{tail_at}
 use Rattle.stores.proofs.tail.TailStore.at.Goals as goal
 
-pub overflow-add-start : goal.overflow-add-start
-overflow-add-start g c =
+pub overflow_add-start : goal.overflow_add-start
+overflow_add-start g c =
     let s = c.args.self.now in
     let bytes = g.S.Store.bytes s.store in
     omega (arith, g.S.Store.short s.store, length-drop (start s.place bytes) bytes)
