@@ -20,8 +20,8 @@ use Rattle.comparing.proofs.newest.equal_state.Goals as goal
 ends : {O : Type 0} (b : Core O) (x : State O) → Sound b → 0 < openings b → x ≡ get_or (highs b.states) 0 x → x.first + x.count ≡ length (lows b.arcs)
 ends b x so h e = laid_top (length (lows b.arcs)) (highs b.states) x h so.laid e
 
-pub offset-bounds-open-top : goal.offset-bounds-open-top
-offset-bounds-open-top g c = let x = c.at_high-top.result in omega (arith, ends c.args.core.now x c.requires.sound c.requires.top (c.at_high-top.ensures x), ap length c.below-open.ensures)
+pub offset_bounds-open-top : goal.offset_bounds-open-top
+offset_bounds-open-top g c = let x = c.at_high-top.result in omega (arith, ends c.args.core.now x c.requires.sound c.requires.top (c.at_high-top.ensures x), ap length c.below-open.ensures)
 
 pub slice-bounds-arcs-count : goal.slice-bounds-arcs-count
 slice-bounds-arcs-count g c = let x = c.at_high-top.result in omega (arith, ends c.args.core.now x c.requires.sound c.requires.top (c.at_high-top.ensures x), ap length c.below-open.ensures)

@@ -6,9 +6,9 @@ use Rattle.lookups.specs.Lookups.{bits_of}
 use Rattle.reading.proofs.Ways.{err_walk, step_lacks, step_refuses, step_joins}
 use Rattle.reading.proofs.walking.step.Goals as goal
 
-pub returns-in-default-arc_output : goal.returns-in-default-arc_output
-returns-in-default-arc_output g c = λ m h.
-    step_lacks g.row.O-Output.kind (bits_of g.S.Store.bytes c.args.loaded.now) (g.row.O-Output.meaning c.args.output) (arc_at (at m.states c.args.state) c.args.byte) c.in-Some.place (c.in-Some.ensures m h) c.in-default-arc_output.ensures
+pub returns-in_default-arc_output : goal.returns-in_default-arc_output
+returns-in_default-arc_output g c = λ m h.
+    step_lacks g.row.O-Output.kind (bits_of g.S.Store.bytes c.args.loaded.now) (g.row.O-Output.meaning c.args.output) (arc_at (at m.states c.args.state) c.args.byte) c.in-Some.place (c.in-Some.ensures m h) c.in_default-arc_output.ensures
 
 pub returns-in_err-output : goal.returns-in_err-output
 returns-in_err-output g c = λ m h.

@@ -67,19 +67,19 @@ loop-i-preserved g t c =
     let loaded = c.args.loaded.now in
     elim c.match-left.branch [
       | in-Some+in-default-seek w ↦ (
-        w.buffer-is ∙ w.in-default-seek.ensures.0 ∙ c.loop-i.invariant.0,
+        w.buffer-is ∙ w.in_default-seek.ensures.0 ∙ c.loop-i.invariant.0,
         passing_behind k g.met.O.Output.lawful g.row.O-Output.meaning (bits_of g.S.Store.bytes loaded) (Holds k g.row.O-Output.meaning g.S.Store.bytes loaded)
             c.args.state (g.row.O-Output.meaning c.args.output.now) c.args.depth c.in_ok-opened.opened c.in_ok-opened.ensures
             c.loop-i.-i c.loop-i.row c.loop-i.invariant.1 c.args.buffer.now c.loop-i.buffer c.loop-i.invariant.0
             (c.in_ok-arc.arc, c.in_ok-arc.behind) c.in_ok-arc.ensures w.in-Some.rest w.in-Some.ensures w.seek.new.buffer
-            w.in-default-seek.ensures,
+            w.in_default-seek.ensures,
       )
       | in_default w ↦ (
         w.buffer-is ∙ c.loop-i.invariant.0,
         passing_other k g.met.O.Output.lawful g.row.O-Output.meaning (bits_of g.S.Store.bytes loaded) (Holds k g.row.O-Output.meaning g.S.Store.bytes loaded)
             c.args.state (g.row.O-Output.meaning c.args.output.now) c.args.depth c.in_ok-opened.opened c.in_ok-opened.ensures
             c.loop-i.-i c.loop-i.row c.loop-i.invariant.1 c.args.buffer.now c.loop-i.buffer c.loop-i.invariant.0
-            (c.in_ok-arc.arc, c.in_ok-arc.behind) c.in_ok-arc.ensures w.in-default.ensures,
+            (c.in_ok-arc.arc, c.in_ok-arc.behind) c.in_ok-arc.ensures w.in_default.ensures,
       )
     ]
 

@@ -22,8 +22,8 @@ overflow_add-x g c =
     let m : length s.cells.now - s.high + c.args.i < length s.cells.now = omega arith in
     search rules
 
-pub offset-bounds-self-n : goal.offset-bounds-self-n
-offset-bounds-self-n g c =
+pub offset_bounds-self-n : goal.offset_bounds-self-n
+offset_bounds-self-n g c =
     let s = c.args.self.now in
     let l = length_high s.cells.now s.low s.high c.requires.room in
     let k : c.args.i < s.high = omega arith in
