@@ -7,7 +7,7 @@ pub loop-i-preserved : goal.loop-i-preserved
 loop-i-preserved c =
     let inv = c.loop-i.invariant in (
       written_more c.loop-i.bytes (take c.args.place c.args.bytes) c.args.from.now c.args.place c.loop-i.i c.loop-i-test.true (omega (arith, inv.2)) inv.0,
-      all_bytes_set c.loop-i.bytes (c.args.place + c.loop-i.i) (get_or c.args.from.now c.loop-i.i 0) inv.1 (omega (arith, c.ok.from c.loop-i.i)),
+      all_bytes_set c.loop-i.bytes (c.args.place + c.loop-i.i) (get_or c.args.from.now c.loop-i.i 0) inv.1 (omega (arith, c.items_fit c.loop-i.i)),
       length-set c.loop-i.bytes _ _ ∙ inv.2,
     )
 
