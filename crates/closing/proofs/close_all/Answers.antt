@@ -10,8 +10,8 @@ use Rattle.closing.proofs.close_all.Goals as goal
 
 pub returns-then-highs-gt0 : goal.returns-then-highs-gt0
 returns-then-highs-gt0 g c =
-    let k = g.row.O-Output.kind in
-    let mean = g.row.O-Output.meaning in
+    let k = g.O.Output.kind in
+    let mean = g.O.Output.meaning in
     let b = c.args.core.now in
     let m = c.close_beyond.new.core in
     let a = c.settle_top.new.core in
@@ -32,8 +32,8 @@ returns-then-highs-gt0 g c =
 
 pub returns-else-highs-gt0 : goal.returns-else-highs-gt0
 returns-else-highs-gt0 g c =
-    let k = g.row.O-Output.kind in
-    let mean = g.row.O-Output.meaning in
+    let k = g.O.Output.kind in
+    let mean = g.O.Output.meaning in
     let b = c.args.core.now in
     let gone : openings b ≡ 0 = omega (arith, c.highs.ensures, c.if-highs-gt0.false) in
     record { sound = c.requires.sound; opens = gone; holds = λ reg. sealed_empty k b.pairs (mean b.start) (closed mean b) (opened mean b) (count_opened mean b ∙ gone) }

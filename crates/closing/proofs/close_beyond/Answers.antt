@@ -17,9 +17,9 @@ overflow_add-kept g c =
 
 pub loop-preserved : goal.loop-preserved
 loop-preserved g c =
-    let k = g.row.O-Output.kind in
-    let mean = g.row.O-Output.meaning in
-    let dig = g.row.O-Output.digested in
+    let k = g.O.Output.kind in
+    let mean = g.O.Output.meaning in
+    let dig = g.O.Output.digested in
     let depth = c.args.depth in
     let b = c.loop.core in
     let m = c.close_top-number.new.core in
@@ -55,8 +55,8 @@ loop-preserved g c =
 
 pub returns : goal.returns
 returns g c =
-    let k = g.row.O-Output.kind in
-    let mean = g.row.O-Output.meaning in
+    let k = g.O.Output.kind in
+    let mean = g.O.Output.meaning in
     let a = c.loop.core in
     let inv = c.loop.invariant in
     let n : length (opened mean a) ≡ openings a = count_opened mean a in

@@ -12,9 +12,9 @@ use Rattle.closing.proofs.close_top.Goals as goal
 
 pub returns-in-Found : goal.returns-in-Found
 returns-in-Found g c =
-    let k = g.row.O-Output.kind in
-    let mean = g.row.O-Output.meaning in
-    let dig = g.row.O-Output.digested in
+    let k = g.O.Output.kind in
+    let mean = g.O.Output.meaning in
+    let dig = g.O.Output.digested in
     let b = c.args.core.now in
     let a = c.drop_top.new.core in
     let d = c.drop_top.ensures.dropped in

@@ -11,7 +11,7 @@ use Rattle.closing.proofs.drop_top.Goals as goal
 
 pub returns : goal.returns
 returns g c =
-    let mean = g.row.O-Output.meaning in
+    let mean = g.O.Output.meaning in
     let so = c.requires.sound in
     let b = c.args.core.now in
     let p = c.pop_high-top.ensures in
@@ -36,7 +36,7 @@ returns g c =
       };
       dropped = record {
         top = record_at top;
-        was = ap (map record_at) p.highs ∙ ap (λ (os : List (Open g.row.O-Output.kind.Ideal)). record_at top ∷ os) (sym (opens_left L top hs lain L' f.lows mean));
+        was = ap (map record_at) p.highs ∙ ap (λ (os : List (Open g.O.Output.kind.Ideal)). record_at top ∷ os) (sym (opens_left L top hs lain L' f.lows mean));
         closed = closed_still b a refl p.lows f.highs mean;
         slots = refl;
       };

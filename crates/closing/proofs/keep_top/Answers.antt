@@ -30,9 +30,9 @@ enter-requires g c =
 
 pub returns : goal.returns
 returns g c =
-    let k = g.row.O-Output.kind in
-    let mean = g.row.O-Output.meaning in
-    let dig = g.row.O-Output.digested in
+    let k = g.O.Output.kind in
+    let mean = g.O.Output.meaning in
+    let dig = g.O.Output.digested in
     let b = c.args.core.now in
     let m = c.settle_top-number.new.core in
     let p = c.settle_top-number.ensures.popped in

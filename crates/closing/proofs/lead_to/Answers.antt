@@ -21,7 +21,7 @@ set_low-requires g c = let b = c.args.core.now in record { room = c.requires.sou
 
 pub returns : goal.returns
 returns g c =
-    let mean = g.row.O-Output.meaning in
+    let mean = g.O.Output.meaning in
     let b = c.args.core.now in
     let so = c.requires.sound in
     let s = c.set_low.ensures in
@@ -42,7 +42,7 @@ returns g c =
       sound = moved b a refl refl s.highs so refl s.capacity so.stateroom s.room (subst (λ (m : ℕ). Laid m (highs b.states)) (sym l) so.laid) so.since so.paired;
       within = record { staterooms = refl; arcrooms = s.capacity; states = omega arith; arcs = omega (arith, l, ap length s.highs) };
       opens = refl;
-      opened = ap (λ (r : List (Edge g.row.O-Output.kind.Ideal)). map (open_record mean r) (highs b.states)) written ∙ opens_aimed q mean es i (arc_of mean x) (omega (arith, n, c.lows-last.ensures)) at (highs b.states) led;
+      opened = ap (λ (r : List (Edge g.O.Output.kind.Ideal)). map (open_record mean r) (highs b.states)) written ∙ opens_aimed q mean es i (arc_of mean x) (omega (arith, n, c.lows-last.ensures)) at (highs b.states) led;
       closed = closed_still b a refl refl s.highs mean;
       slots = refl;
       pairs = refl;

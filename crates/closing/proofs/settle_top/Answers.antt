@@ -29,7 +29,7 @@ push_low-requires g c =
 
 pub returns : goal.returns
 returns g c =
-    let mean = g.row.O-Output.meaning in
+    let mean = g.O.Output.meaning in
     let so = c.requires.sound in
     let b = c.args.core.now in
     let p = c.pop_high-top.ensures in
@@ -77,7 +77,7 @@ returns g c =
       };
       settled = record {
         top = record_at top;
-        was = ap (map record_at) p.highs ∙ ap (λ (os : List (Open g.row.O-Output.kind.Ideal)). record_at top ∷ os) (sym (opens_left L top hs lain L' a.lows mean)) ∙ ap (λ (xs : List (State g.row.O.Denot)). record_at top ∷ map (open_record mean (arcs_of mean L')) xs) (sym hs');
+        was = ap (map record_at) p.highs ∙ ap (λ (os : List (Open g.O.Output.kind.Ideal)). record_at top ∷ os) (sym (opens_left L top hs lain L' a.lows mean)) ∙ ap (λ (xs : List (State g.row.O.Denot)). record_at top ∷ map (open_record mean (arcs_of mean L')) xs) (sym hs');
         closed =
             let sa = ap (map (closed_state mean (arcs_of mean H'))) ls' ∙ states_after L top hs lain mean H H' a.highs ls placed b.pairs first c.highs-first.ensures in
             let ca = ap (counts mean) ls' ∙ counts_after L top hs lain mean H H' a.highs ls placed b.pairs first in

@@ -2,4 +2,4 @@ use Rattle.construction.proofs.HeldStates.{held_exact}
 use Rattle.construction.proofs.construction_is_exact.Goals as goal
 
 pub returns : goal.returns
-returns g c = held_exact g.row.O-Output.kind g.met.O.Output.lawful
+returns g c = held_exact g.O.Output.kind g.met.O.Output.lawful

@@ -2,4 +2,4 @@ use Rattle.machines.proofs.Theorems.{right_answers}
 use Rattle.machines.proofs.answers_stand.Goals as goal
 
 pub returns : goal.returns
-returns g c = right_answers g.row.O-Output.kind g.met.O.Output.lawful
+returns g c = right_answers g.O.Output.kind g.met.O.Output.lawful

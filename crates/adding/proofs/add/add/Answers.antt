@@ -19,14 +19,14 @@ use Rattle.adding.proofs.add.add.Goals as goal
 
 pub open_root-requires : goal.open_root-requires
 open_root-requires g c =
-    let mean = g.row.O-Output.meaning in
+    let mean = g.O.Output.meaning in
     let b = c.args.core.now in
     let a = c.in_ok-depth.ensures in
     record { sound = c.requires.ready.sound; room = λ z. omega (arith, a.stateroom, count_closed mean b) }
 
 pub close_beyond-requires : goal.close_beyond-requires
 close_beyond-requires g c =
-    let mean = g.row.O-Output.meaning in
+    let mean = g.O.Output.meaning in
     let b = c.args.core.now in
     let a = c.in_ok-depth.ensures in
     let r = c.open_root.ensures in
@@ -43,8 +43,8 @@ push_along-left-requires g c = let e = c.close_beyond.ensures in record { sound 
 
 pub extend-requires : goal.extend-requires
 extend-requires g c =
-    let k = g.row.O-Output.kind in
-    let mean = g.row.O-Output.meaning in
+    let k = g.O.Output.kind in
+    let mean = g.O.Output.meaning in
     let x = mean c.args.output in
     let key = c.args.key.now in
     let b = c.args.core.now in
@@ -72,8 +72,8 @@ extend-requires g c =
 
 pub returns : goal.returns
 returns g c =
-    let k = g.row.O-Output.kind in
-    let mean = g.row.O-Output.meaning in
+    let k = g.O.Output.kind in
+    let mean = g.O.Output.meaning in
     let x = mean c.args.output in
     let key = c.args.key.now in
     let b = c.args.core.now in
@@ -87,7 +87,7 @@ returns g c =
     let w = p.shape.keeps in
     let v = t.keeps in
     let first : length h.open' ≡ 0 → h.pairs ≡ 0 = λ z. c.requires.ready.first (sym (count_open mean b) ∙ z) in
-    let dig = g.row.O-Output.digested in
+    let dig = g.O.Output.digested in
     let o = r.keeps in
     record {
       ready = record { sound = v.sound; first = λ z. absurd (omega (arith, t.opened, z)) };

@@ -10,7 +10,7 @@ use Rattle.adding.proofs.admission.admit.Goals as goal
 
 pub overflow_sub-growth : goal.overflow_sub-growth
 overflow_sub-growth g c =
-    let within = common_within c.args.key.now (newest_key (held g.row.O-Output.meaning c.args.core.now).open') in
+    let within = common_within c.args.key.now (newest_key (held g.O.Output.meaning c.args.core.now).open') in
     omega (arith, within.0, c.common_prefix-depth.ensures)
 
 most : (g : _) (c : goal.After-max g) → c.lows.result + c.max.result < 131072
@@ -29,7 +29,7 @@ overflow_add-states-2 g c =
 
 pub returns-then-states-growth : goal.returns-then-states-growth
 returns-then-states-growth g c =
-    let mean = g.row.O-Output.meaning in
+    let mean = g.O.Output.meaning in
     let b = c.args.core.now in
     let n : states_held (held mean b) ≡ c.lows.result + c.max.result = omega (arith, count_closed mean b, count_open mean b, c.lows.ensures, c.highs.ensures, c.max.ensures) in
     (c.if-key-gt64.false, sym c.is_above.ensures ∙ c.if-not-is_above.false, c.if-core-ge1048575.false, omega (arith, n, c.capacity.ensures, c.common_prefix-depth.ensures, c.if-states-growth.true))
@@ -48,7 +48,7 @@ overflow_add-arcs-2 g c =
 
 pub returns-then-arcs-growth : goal.returns-then-arcs-growth
 returns-then-arcs-growth g c =
-    let mean = g.row.O-Output.meaning in
+    let mean = g.O.Output.meaning in
     let b = c.args.core.now in
     let n : states_held (held mean b) ≡ c.lows.result + c.max.result = omega (arith, count_closed mean b, count_open mean b, c.lows.ensures, c.highs.ensures, c.max.ensures) in
     let m : arcs_held (held mean b) ≡ c.lows-2.result + c.highs-2.result = omega (arith, count_edges mean b c.requires.sound, c.lows-2.ensures, c.highs-2.ensures) in (
@@ -61,7 +61,7 @@ returns-then-arcs-growth g c =
 
 pub returns : goal.returns
 returns g c =
-    let mean = g.row.O-Output.meaning in
+    let mean = g.O.Output.meaning in
     let b = c.args.core.now in
     let n : states_held (held mean b) ≡ c.lows.result + c.max.result = omega (arith, count_closed mean b, count_open mean b, c.lows.ensures, c.highs.ensures, c.max.ensures) in
     let m : arcs_held (held mean b) ≡ c.lows-2.result + c.highs-2.result = omega (arith, count_edges mean b c.requires.sound, c.lows-2.ensures, c.highs-2.ensures) in

@@ -7,7 +7,7 @@ use Rattle.adding.proofs.admission.common_prefix.Goals as goal
 
 pub returns-then-key-i : goal.returns-then-key-i
 returns-then-key-i g c =
-    let newest = newest_key (held g.row.O-Output.meaning c.args.core.now).open' in
+    let newest = newest_key (held g.O.Output.meaning c.args.core.now).open' in
     let key = c.args.key.now in
     let i = c.loop-i.i in
     let inv : i + common_length (drop i key) (drop i newest) ≡ common_length key newest = c.loop-i.invariant in
@@ -16,14 +16,14 @@ returns-then-key-i g c =
 
 pub loop-i-preserved : goal.loop-i-preserved
 loop-i-preserved g c =
-    let newest = newest_key (held g.row.O-Output.meaning c.args.core.now).open' in
+    let newest = newest_key (held g.O.Output.meaning c.args.core.now).open' in
     let key = c.args.key.now in
     let i = c.loop-i.i in
     common_more i key newest (omega (arith, c.loop-i-test.true, c.min-most.ensures)) (omega (arith, c.loop-i-test.true, c.min-most.ensures, c.length.ensures)) (c.if-key-i.false ∙ c.byte.ensures) ∙ c.loop-i.invariant
 
 pub returns : goal.returns
 returns g c =
-    let newest = newest_key (held g.row.O-Output.meaning c.args.core.now).open' in
+    let newest = newest_key (held g.O.Output.meaning c.args.core.now).open' in
     let key = c.args.key.now in
     let i = c.loop-i.i in
     let inv : i + common_length (drop i key) (drop i newest) ≡ common_length key newest = c.loop-i.invariant in

@@ -9,46 +9,46 @@ use Rattle.adding.proofs.admission.is_above.Goals as goal
 pub returns-then-highs-eq0 : goal.returns-then-highs-eq0
 returns-then-highs-eq0 g c =
     let b = c.args.core.now in
-    let os = (held g.row.O-Output.meaning b).open' in
-    sym (above_none os c.args.key.now (omega (arith, count_open g.row.O-Output.meaning b, c.highs.ensures, c.if-highs-eq0.true)))
+    let os = (held g.O.Output.meaning b).open' in
+    sym (above_none os c.args.key.now (omega (arith, count_open g.O.Output.meaning b, c.highs.ensures, c.if-highs-eq0.true)))
 
 pub returns-then-depth-key : goal.returns-then-depth-key
 returns-then-depth-key g c =
     let b = c.args.core.now in
-    let os = (held g.row.O-Output.meaning b).open' in
+    let os = (held g.O.Output.meaning b).open' in
     let key = c.args.key.now in
-    let some : 0 < length os = omega (arith, count_open g.row.O-Output.meaning b, c.highs.ensures, c.if-highs-eq0.false) in
+    let some : 0 < length os = omega (arith, count_open g.O.Output.meaning b, c.highs.ensures, c.if-highs-eq0.false) in
     sym (above_newest os key some ∙ lower_prefix key (newest_key os) (sym c.requires.leaves ∙ c.if-depth-key.true))
 
 pub returns-then-depth-length : goal.returns-then-depth-length
 returns-then-depth-length g c =
     let b = c.args.core.now in
-    let os = (held g.row.O-Output.meaning b).open' in
+    let os = (held g.O.Output.meaning b).open' in
     let key = c.args.key.now in
-    let some : 0 < length os = omega (arith, count_open g.row.O-Output.meaning b, c.highs.ensures, c.if-highs-eq0.false) in
+    let some : 0 < length os = omega (arith, count_open g.O.Output.meaning b, c.highs.ensures, c.if-highs-eq0.false) in
     let whole = sym c.requires.leaves ∙ c.if-depth-length.true ∙ c.length.ensures in
     let within = common_within key (newest_key os) in
     sym (above_newest os key some ∙ lower_longer key (newest_key os) whole (omega (arith, within.0, c.requires.leaves, c.if-depth-key.false, c.if-depth-length.true, c.length.ensures)))
 
 pub byte-requires : goal.byte-requires
 byte-requires g c =
-    let newest = newest_key (held g.row.O-Output.meaning c.args.core.now).open' in
+    let newest = newest_key (held g.O.Output.meaning c.args.core.now).open' in
     let within = common_within c.args.key.now newest in
     record { sound = c.requires.sound; within = omega (arith, within.1, c.requires.leaves, c.if-depth-length.false, c.length.ensures) }
 
 pub bounds-key-depth : goal.bounds-key-depth
 bounds-key-depth g c =
-    let newest = newest_key (held g.row.O-Output.meaning c.args.core.now).open' in
+    let newest = newest_key (held g.O.Output.meaning c.args.core.now).open' in
     let within = common_within c.args.key.now newest in
     omega (arith, within.0, c.requires.leaves, c.if-depth-key.false)
 
 pub returns : goal.returns
 returns g c =
     let b = c.args.core.now in
-    let os = (held g.row.O-Output.meaning b).open' in
+    let os = (held g.O.Output.meaning b).open' in
     let key = c.args.key.now in
     let d = c.args.depth in
-    let some : 0 < length os = omega (arith, count_open g.row.O-Output.meaning b, c.highs.ensures, c.if-highs-eq0.false) in
+    let some : 0 < length os = omega (arith, count_open g.O.Output.meaning b, c.highs.ensures, c.if-highs-eq0.false) in
     let within = common_within key (newest_key os) in
     ap (λ (n : ℕ). ltb n (get_or key d 0)) c.byte.ensures ∙ sym (above_newest os key some ∙ lower_parting d key (newest_key os) c.requires.leaves
     (omega (arith, within.0, c.requires.leaves, c.if-depth-key.false))

@@ -12,7 +12,7 @@ use Rattle.adding.proofs.extending.accept.Goals as goal
 
 pub returns : goal.returns
 returns g c =
-    let mean = g.row.O-Output.meaning in
+    let mean = g.O.Output.meaning in
     let so = c.requires.sound in
     let b = c.args.core.now in
     let hs = highs b.states in

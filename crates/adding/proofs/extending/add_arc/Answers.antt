@@ -21,8 +21,8 @@ overflow_add-top g c =
 
 pub returns : goal.returns
 returns g c =
-    let k = g.row.O-Output.kind in
-    let mean = g.row.O-Output.meaning in
+    let k = g.O.Output.kind in
+    let mean = g.O.Output.meaning in
     let so = c.requires.sound in
     let b = c.args.core.now in
     let hs = highs b.states in

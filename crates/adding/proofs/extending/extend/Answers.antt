@@ -13,8 +13,8 @@ use Rattle.adding.proofs.extending.extend.Goals as goal
 
 pub loop-i-preserved : goal.loop-i-preserved
 loop-i-preserved g c =
-    let k = g.row.O-Output.kind in
-    let mean = g.row.O-Output.meaning in
+    let k = g.O.Output.kind in
+    let mean = g.O.Output.meaning in
     let b = c.args.core.now in
     let m = c.loop-i.core in
     let n = c.add_arc.new.core in
@@ -46,8 +46,8 @@ loop-i-preserved g c =
 
 pub returns : goal.returns
 returns g c =
-    let k = g.row.O-Output.kind in
-    let mean = g.row.O-Output.meaning in
+    let k = g.O.Output.kind in
+    let mean = g.O.Output.meaning in
     let b = c.args.core.now in
     let m = c.loop-i.core in
     let a = c.accept.new.core in

@@ -15,5 +15,5 @@ invariant-loop-i g l =
     × (0 < openings l.core)
     × (closings l.core + openings l.core + (length l.key - l.i) ≤ capacity l.core.states)
     × (edgings l.core + (length l.key - l.i) ≤ capacity l.core.arcs)
-    × (extend_last g.row.O-Output.kind l.initial.core.pairs (held g.row.O-Output.meaning l.core).open' (drop l.i l.key) (g.row.O-Output.meaning l.output)
-    ≡ extend_last g.row.O-Output.kind l.initial.core.pairs (held g.row.O-Output.meaning l.initial.core).open' (drop l.depth l.key) (g.row.O-Output.meaning l.initial.output))
+    × (extend_last g.O.Output.kind l.initial.core.pairs (held g.O.Output.meaning l.core).open' (drop l.i l.key) (g.O.Output.meaning l.output)
+    ≡ extend_last g.O.Output.kind l.initial.core.pairs (held g.O.Output.meaning l.initial.core).open' (drop l.depth l.key) (g.O.Output.meaning l.initial.output))

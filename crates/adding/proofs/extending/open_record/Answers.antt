@@ -10,7 +10,7 @@ use Rattle.adding.proofs.extending.open_record.Goals as goal
 
 pub returns : goal.returns
 returns g c =
-    let mean = g.row.O-Output.meaning in
+    let mean = g.O.Output.meaning in
     let b = c.args.core.now in
     let so = c.requires.sound in
     let s = c.push_high.ensures in

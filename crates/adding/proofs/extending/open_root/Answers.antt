@@ -10,14 +10,14 @@ use Rattle.adding.proofs.extending.open_root.Goals as goal
 
 pub returns-then-highs-eq0 : goal.returns-then-highs-eq0
 returns-then-highs-eq0 g c =
-    let mean = g.row.O-Output.meaning in
+    let mean = g.O.Output.meaning in
     let b = c.args.core.now in
     let a = c.open_record.new.core in
     let e = c.open_record.ensures in
     let w = e.keeps in
     let h = held mean b in
     let none : h.open' ≡ [] = nil_from_length h.open' (omega (arith, count_open mean b, c.highs.ensures, c.if-highs-eq0.true)) in
-    let r : (held mean a).open' ≡ blank b.pairs ∷ [] = e.records ∙ ap (λ (os : List (Open g.row.O-Output.kind.Ideal)). os ++ (blank b.pairs ∷ [])) none in
+    let r : (held mean a).open' ≡ blank b.pairs ∷ [] = e.records ∙ ap (λ (os : List (Open g.O.Output.kind.Ideal)). os ++ (blank b.pairs ∷ [])) none in
     let f = closed_still b a w.slots w.states w.arcs mean in
     record {
       keeps = record { sound = w.sound; states = w.states; arcs = w.arcs; slots = w.slots; staterooms = w.staterooms; arcrooms = w.arcrooms };
@@ -28,7 +28,7 @@ returns-then-highs-eq0 g c =
 
 pub returns-else-highs-eq0 : goal.returns-else-highs-eq0
 returns-else-highs-eq0 g c =
-    let mean = g.row.O-Output.meaning in
+    let mean = g.O.Output.meaning in
     let b = c.args.core.now in
     let h = held mean b in
     let some : 0 < length h.open' = omega (arith, count_open mean b, c.highs.ensures, c.if-highs-eq0.false) in

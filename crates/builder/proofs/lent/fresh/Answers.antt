@@ -9,7 +9,7 @@ use Rattle.builder.proofs.lent.fresh.Goals as goal
 
 pub returns : goal.returns
 returns g c =
-    let mean = g.row.O-Output.meaning in
+    let mean = g.O.Output.meaning in
     let s = c.new.ensures in
     let a = c.new-2.ensures in
     let ls : lows c.new.result ≡ [] = s.0 in
@@ -17,7 +17,7 @@ returns g c =
     let sc : capacity c.new.result ≡ length c.args.states.now = s.1.1.0 in
     let ac : capacity c.new-2.result ≡ length c.args.arcs.now = a.1.1.0 in
     let z : length (lows c.new-2.result) ≡ 0 = ap length a.0 in
-    let st : mean c.empty.result ≡ g.row.O-Output.kind.empty = c.empty.ensures in
+    let st : mean c.empty.result ≡ g.O.Output.kind.empty = c.empty.ensures in
     let es = arcs_of mean (highs c.new-2.result) in
     let os = arcs_of mean (lows c.new-2.result) in
     record {
@@ -36,6 +36,6 @@ returns g c =
         used = omega (arith, used_none c.args.slots.now c.requires.clear);
         paired = omega arith;
       };
-      registered = subst (λ (ss : List (State g.row.O.Denot)). Register g.row.O-Output.digested c.args.slots.now (map (closed_state mean es) ss)) (sym ls) (record { entered = λ q h. absurd (omega arith); distinct = λ p q l h. absurd (omega arith) });
+      registered = subst (λ (ss : List (State g.row.O.Denot)). Register g.O.Output.digested c.args.slots.now (map (closed_state mean es) ss)) (sym ls) (record { entered = λ q h. absurd (omega arith); distinct = λ p q l h. absurd (omega arith) });
       holds = λ i. record { closed = record { states = map (closed_state mean es) (ls i); counts = counts mean (ls i) }; open' = reverse (map (open_record mean os) (hs i)); start = st i; pairs = 0 };
     }

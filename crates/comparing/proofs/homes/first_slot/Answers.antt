@@ -7,8 +7,8 @@ use Rattle.comparing.proofs.homes.first_slot.Goals as goal
 
 pub loop-arc-preserved : goal.loop-arc-preserved
 loop-arc-preserved g c =
-    let mean = g.row.O-Output.meaning in
-    let dig = g.row.O-Output.digested in
+    let mean = g.O.Output.meaning in
+    let dig = g.O.Output.digested in
     let xs = c.args.arcs.now in
     let i = c.loop-arc.arc-index in
     let h = c.loop-arc.h in
@@ -22,7 +22,7 @@ loop-arc-preserved g c =
 
 pub returns : goal.returns
 returns g c =
-    let mean = g.row.O-Output.meaning in
-    let dig = g.row.O-Output.digested in
+    let mean = g.O.Output.meaning in
+    let dig = g.O.Output.digested in
     let e = at_drop_all (λ (ys : List (Arc g.row.O.Denot)). stirred_arcs dig c.loop-arc.h (arcs_of mean ys)) c.args.arcs.now c.loop-arc.arc-index c.loop-arc-test.false in
     record { slot = ap (λ (n : ℕ). n / 2 ^ 32 % c.args.slots) (sym e ∙ c.loop-arc.invariant); within = search (rules, mod-lt) }

@@ -44,8 +44,8 @@ look_up-requires g c =
 
 pub returns : goal.returns
 returns g c =
-    let mean = g.row.O-Output.meaning in
-    let dig = g.row.O-Output.digested in
+    let mean = g.O.Output.meaning in
+    let dig = g.O.Output.digested in
     let b = c.args.core.now in
     let x = c.at_high-top.result in
     let L = lows b.arcs in
@@ -55,7 +55,7 @@ returns g c =
     let above = c.above.result.now in
     let slots = b.slots.now in
     let arcs = arcs_of mean (take (length opens - x.first) (drop x.first opens)) in
-    let node : Node g.row.O-Output.kind.Ideal = record { end = end_of mean x; arcs = arcs } in
+    let node : Node g.O.Output.kind.Ideal = record { end = end_of mean x; arcs = arcs } in
     let w = ends b x c.requires.sound c.requires.top (c.at_high-top.ensures x) in
     let part : arcs ≡ take x.count (drop x.first (arcs_of mean L)) = ap (arcs_of mean) (part_to_end opens L x.first x.count c.below-open.ensures w) ∙ arcs_part mean x.count x.first L in
     let top = newest (opened mean b) in

@@ -7,21 +7,21 @@ use Rattle.comparing.proofs.same.same_arcs.Goals as goal
 pub returns-then-a-b : goal.returns-then-a-b
 returns-then-a-b g c = record {
   equal = λ q. let z : ◌≡◌ {A = ℕ} 0 1 = cc in absurd (omega arith);
-  different = λ t q. c.if-a-b.true (map_length (arc_of g.row.O-Output.meaning) c.args.a.now c.args.b.now q);
+  different = λ t q. c.if-a-b.true (map_length (arc_of g.O.Output.meaning) c.args.a.now c.args.b.now q);
 }
 
 pub returns-then-not-same_arc : goal.returns-then-not-same_arc
 returns-then-not-same_arc g c = record {
   equal = λ q. let z : ◌≡◌ {A = ℕ} 0 1 = cc in absurd (omega arith);
-  different = λ t q. c.same_arc.ensures.different c.if-not-same_arc.true (item_same (arc_of g.row.O-Output.meaning) c.args.a.now c.args.b.now c.loop-i.i c.index-a-i.result c.index-b-i.result (omega arith) (omega arith) c.index-a-i.is c.index-b-i.is q);
+  different = λ t q. c.same_arc.ensures.different c.if-not-same_arc.true (item_same (arc_of g.O.Output.meaning) c.args.a.now c.args.b.now c.loop-i.i c.index-a-i.result c.index-b-i.result (omega arith) (omega arith) c.index-a-i.is c.index-b-i.is q);
 }
 
 pub loop-i-preserved : goal.loop-i-preserved
-loop-i-preserved g c = items_more (arc_of g.row.O-Output.meaning) c.args.a.now c.args.b.now c.loop-i.i c.index-a-i.result c.index-b-i.result (omega arith) (omega arith) c.index-a-i.is c.index-b-i.is (c.same_arc.ensures.equal c.if-not-same_arc.false) c.loop-i.invariant
+loop-i-preserved g c = items_more (arc_of g.O.Output.meaning) c.args.a.now c.args.b.now c.loop-i.i c.index-a-i.result c.index-b-i.result (omega arith) (omega arith) c.index-a-i.is c.index-b-i.is (c.same_arc.ensures.equal c.if-not-same_arc.false) c.loop-i.invariant
 
 pub returns : goal.returns
 returns g c =
-    let mean = g.row.O-Output.meaning in
+    let mean = g.O.Output.meaning in
     let a = c.args.a.now in
     let b = c.args.b.now in
     let i = c.loop-i.i in

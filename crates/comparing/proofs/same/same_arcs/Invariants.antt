@@ -3,4 +3,4 @@ use Rattle.records.specs.Holding.{arcs_of}
 use Rattle.comparing.proofs.same.same_arcs.Given as goal
 
 abbrev pub invariant-loop-i : goal.invariant-loop-i
-invariant-loop-i g l = arcs_of g.row.O-Output.meaning (take l.i l.a) ≡ arcs_of g.row.O-Output.meaning (take l.i l.b)
+invariant-loop-i g l = arcs_of g.O.Output.meaning (take l.i l.a) ≡ arcs_of g.O.Output.meaning (take l.i l.b)

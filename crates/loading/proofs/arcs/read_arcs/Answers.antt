@@ -6,11 +6,11 @@ use Rattle.loading.proofs.ArcRows.{begins, more, stops, ends}
 use Rattle.loading.proofs.arcs.read_arcs.Goals as goal
 
 pub loop-i-init : goal.loop-i-init
-loop-i-init g c = (omega arith, (omega arith, omega arith), begins g.row.O-Output.kind (spread (g.S.Store.bytes c.args.store.now)) c.args.index c.args.state c.args.count c.args.working.now c.args.place)
+loop-i-init g c = (omega arith, (omega arith, omega arith), begins g.O.Output.kind (spread (g.S.Store.bytes c.args.store.now)) c.args.index c.args.state c.args.count c.args.working.now c.args.place)
 
 pub returns-in_err-arc : goal.returns-in_err-arc
 returns-in_err-arc g c =
-    let k = g.row.O-Output.kind in
+    let k = g.O.Output.kind in
     let all = spread (g.S.Store.bytes c.args.store.now) in
     let h = stops k all c.args.index c.args.state c.args.count c.args.working.now c.args.place c.loop-i.i c.loop-i.least c.loop-i.keys c.loop-i.longest c.loop-i.here c.loop-i.working c.loop-i.invariant.2
     c.in_err-arc.field-0.0 (omega arith) c.in_err-arc.ensures.answers in
@@ -24,7 +24,7 @@ keys_at-keys-requires g c =
 
 pub loop-i-preserved : goal.loop-i-preserved
 loop-i-preserved g c =
-    let k = g.row.O-Output.kind in
+    let k = g.O.Output.kind in
     let all = spread (g.S.Store.bytes c.args.store.now) in
     let a = c.in_ok-arc.ensures in (
       omega arith,
@@ -35,7 +35,7 @@ loop-i-preserved g c =
 
 pub returns : goal.returns
 returns g c =
-    let k = g.row.O-Output.kind in
+    let k = g.O.Output.kind in
     let all = spread (g.S.Store.bytes c.args.store.now) in
     record {
       answers = ends k all c.args.index c.args.state c.args.count c.args.working.now c.args.place c.loop-i.i c.loop-i.least c.loop-i.keys c.loop-i.longest c.loop-i.here c.loop-i.working c.loop-i.invariant.2 _ (omega arith) (omega arith) refl;

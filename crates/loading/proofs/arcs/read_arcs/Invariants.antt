@@ -7,4 +7,4 @@ abbrev pub invariant-loop-i : goal.invariant-loop-i
 invariant-loop-i g l =
     (l.keys ≤ 1048575 * l.i)
     × ((l.here < 2 ^ 32) × (l.here ≤ length (spread (g.S.Store.bytes l.store))))
-    × Walked g.row.O-Output.kind (spread (g.S.Store.bytes l.store)) l.index l.state l.count l.initial.working l.place l.i l.least l.keys l.longest l.here l.working
+    × Walked g.O.Output.kind (spread (g.S.Store.bytes l.store)) l.index l.state l.count l.initial.working l.place l.i l.least l.keys l.longest l.here l.working

@@ -11,13 +11,13 @@ record_place-requires g c = (omega arith, (omega arith, (c.requires.there c.loop
 
 pub returns-then-working-state-lt128 : goal.returns-then-working-state-lt128
 returns-then-working-state-lt128 g c =
-    let h = marked_stop g.row.O-Output.kind (spread (g.S.Store.bytes c.args.store.now)) c.args.index c.args.states c.args.place c.loop-state.state c.args.working.now c.loop-state.invariant (omega arith) c.if-working-state-lt128.true in
+    let h = marked_stop g.O.Output.kind (spread (g.S.Store.bytes c.args.store.now)) c.args.index c.args.states c.args.place c.loop-state.state c.args.working.now c.loop-state.invariant (omega arith) c.if-working-state-lt128.true in
     record { passes = is_failed _ (Target c.record_place.result) (h ∙ ap {A = ℕ} {B = Step (Unit {0})} (λ p. refuses (refusal_at 25 p)) (sym c.record_place.ensures.place)); same = tt }
 
 pub loop-state-preserved : goal.loop-state-preserved
-loop-state-preserved g c = marked_more g.row.O-Output.kind (spread (g.S.Store.bytes c.args.store.now)) c.args.index c.args.states c.args.place c.loop-state.state c.args.working.now c.loop-state.invariant (omega arith) c.if-working-state-lt128.false
+loop-state-preserved g c = marked_more g.O.Output.kind (spread (g.S.Store.bytes c.args.store.now)) c.args.index c.args.states c.args.place c.loop-state.state c.args.working.now c.loop-state.invariant (omega arith) c.if-working-state-lt128.false
 
 pub returns : goal.returns
 returns g c =
-    let h = marked_end g.row.O-Output.kind (spread (g.S.Store.bytes c.args.store.now)) c.args.index c.args.states c.args.place c.loop-state.state c.args.working.now c.loop-state.invariant (omega arith) in
+    let h = marked_end g.O.Output.kind (spread (g.S.Store.bytes c.args.store.now)) c.args.index c.args.states c.args.place c.loop-state.state c.args.working.now c.loop-state.invariant (omega arith) in
     record { passes = is_passed _ tt c.args.place h; same = refl }

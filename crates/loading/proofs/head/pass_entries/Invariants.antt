@@ -8,4 +8,4 @@ invariant-loop-i g l =
     (l.place ≡ l.index + 32 * l.i)
     × (l.place ≤ length (spread (g.S.Store.bytes l.store)))
     × (l.place < 2 ^ 32)
-    × (entries g.row.O-Output.kind (spread (g.S.Store.bytes l.store)) l.states l.index ≡ entries g.row.O-Output.kind (spread (g.S.Store.bytes l.store)) (l.states - l.i) l.place)
+    × (entries g.O.Output.kind (spread (g.S.Store.bytes l.store)) l.states l.index ≡ entries g.O.Output.kind (spread (g.S.Store.bytes l.store)) (l.states - l.i) l.place)

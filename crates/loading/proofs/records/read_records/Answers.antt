@@ -6,11 +6,11 @@ use Rattle.loading.proofs.StateRows.{begins, more, stops, ends}
 use Rattle.loading.proofs.records.read_records.Goals as goal
 
 pub loop-state-init : goal.loop-state-init
-loop-state-init g c = (omega arith, (omega arith, omega arith), λ t l. absurd (omega arith), begins g.row.O-Output.kind (spread (g.S.Store.bytes c.args.store.now)) c.args.index c.args.states c.args.place c.args.working.now)
+loop-state-init g c = (omega arith, (omega arith, omega arith), λ t l. absurd (omega arith), begins g.O.Output.kind (spread (g.S.Store.bytes c.args.store.now)) c.args.index c.args.states c.args.place c.args.working.now)
 
 pub returns-in_err-count : goal.returns-in_err-count
 returns-in_err-count g c =
-    let k = g.row.O-Output.kind in
+    let k = g.O.Output.kind in
     let all = spread (g.S.Store.bytes c.args.store.now) in
     let h = stops k all c.args.index c.args.states c.args.place c.loop-state.state c.loop-state.arcs c.loop-state.here c.loop-state.working c.loop-state.invariant.3
     _ c.in_err-count.field-0.0 (omega arith) c.in_err-count.ensures.answers in
@@ -19,7 +19,7 @@ returns-in_err-count g c =
 
 pub loop-state-preserved : goal.loop-state-preserved
 loop-state-preserved g c =
-    let k = g.row.O-Output.kind in
+    let k = g.O.Output.kind in
     let all = spread (g.S.Store.bytes c.args.store.now) in
     let a = c.in_ok-count.ensures in (
       omega (arith, a.within.0),
@@ -31,7 +31,7 @@ loop-state-preserved g c =
 
 pub returns : goal.returns
 returns g c =
-    let k = g.row.O-Output.kind in
+    let k = g.O.Output.kind in
     let all = spread (g.S.Store.bytes c.args.store.now) in
     let i = c.loop-state.invariant in
     record {

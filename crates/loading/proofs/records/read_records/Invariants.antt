@@ -8,5 +8,5 @@ abbrev pub invariant-loop-state : goal.invariant-loop-state
 invariant-loop-state g l =
     (l.arcs ≤ 256 * l.state)
     × ((l.here < 2 ^ 32) × (l.here ≤ length (spread (g.S.Store.bytes l.store))))
-    × ((t : ℕ) → t < l.state → There g.row.O-Output.kind (spread (g.S.Store.bytes l.store)) l.index t)
-    × Walked g.row.O-Output.kind (spread (g.S.Store.bytes l.store)) l.index l.states l.place l.state l.arcs l.here l.working
+    × ((t : ℕ) → t < l.state → There g.O.Output.kind (spread (g.S.Store.bytes l.store)) l.index t)
+    × Walked g.O.Output.kind (spread (g.S.Store.bytes l.store)) l.index l.states l.place l.state l.arcs l.here l.working

@@ -10,8 +10,8 @@ use Rattle.loading.proofs.steps.read_output.Goals as goal
 
 pub returns-in-Ok : goal.returns-in-Ok
 returns-in-Ok g c =
-    let k = g.row.O-Output.kind in
-    let m = g.row.O-Output.meaning in
+    let k = g.O.Output.kind in
+    let m = g.O.Output.meaning in
     let p = c.args.place in
     let bytes = g.S.Store.bytes c.args.store.now in
     let h = subst (λ s. Read {E = Refusal} k m (k.read (drop p (spread (g.S.Store.bytes s)))) p (missing p (g.S.Store.bytes s)) (Ok c.in-Ok.found)) c.new-bits.ensures c.in-Ok.ensures in
@@ -20,8 +20,8 @@ returns-in-Ok g c =
 
 pub returns-in-Err : goal.returns-in-Err
 returns-in-Err g c =
-    let k = g.row.O-Output.kind in
-    let m = g.row.O-Output.meaning in
+    let k = g.O.Output.kind in
+    let m = g.O.Output.meaning in
     let p = c.args.place in
     let bytes = g.S.Store.bytes c.args.store.now in
     let h = subst (λ s. Read {E = Refusal} k m (k.read (drop p (spread (g.S.Store.bytes s)))) p (missing p (g.S.Store.bytes s)) (Err c.in-Err.e)) c.new-bits.ensures c.in-Err.ensures in

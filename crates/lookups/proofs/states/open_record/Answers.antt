@@ -7,5 +7,5 @@ pub returns : goal.returns
 returns g c =
     let bytes = g.S.Store.bytes in
     let l = c.args.loaded.now in
-    λ m h. opens_some g.row.O-Output.kind g.row.O-Output.meaning bytes l m h c.args.state c.in_ok-place.place c.number_in-opening.result (c.in_ok-place.ensures.place m h) (λ w.
+    λ m h. opens_some g.O.Output.kind g.O.Output.meaning bytes l m h c.args.state c.in_ok-place.place c.number_in-opening.result (c.in_ok-place.ensures.place m h) (λ w.
     number_at bytes c.store.result.now l.store 10 c.in_ok-place.place _ c.number_in-opening.result c.store.ensures refl w c.number_in-opening.ensures.value)

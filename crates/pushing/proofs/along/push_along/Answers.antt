@@ -25,8 +25,8 @@ push_step-on-requires g c =
 
 pub loop-d-preserved : goal.loop-d-preserved
 loop-d-preserved g c =
-    let k = g.row.O-Output.kind in
-    let mean = g.row.O-Output.meaning in
+    let k = g.O.Output.kind in
+    let mean = g.O.Output.meaning in
     let b = started c.args.core.now c.common-shared.result in
     let m = c.loop-d.core in
     let a = c.push_step-on.new.core in
@@ -55,8 +55,8 @@ push_record-requires g c =
 
 pub returns : goal.returns
 returns g c =
-    let k = g.row.O-Output.kind in
-    let mean = g.row.O-Output.meaning in
+    let k = g.O.Output.kind in
+    let mean = g.O.Output.meaning in
     let I = k.Ideal in
     let b = c.args.core.now in
     let m = c.loop-d.core in

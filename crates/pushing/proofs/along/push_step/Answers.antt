@@ -12,8 +12,8 @@ use Rattle.pushing.proofs.along.push_step.Goals as goal
 
 pub returns : goal.returns
 returns g c =
-    let k = g.row.O-Output.kind in
-    let mean = g.row.O-Output.meaning in
+    let k = g.O.Output.kind in
+    let mean = g.O.Output.meaning in
     let carry = mean c.args.carry in
     let left = mean c.args.left in
     let d = c.args.depth in

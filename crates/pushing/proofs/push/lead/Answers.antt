@@ -11,8 +11,8 @@ use Rattle.pushing.proofs.push.lead.Goals as goal
 
 pub returns : goal.returns
 returns g c =
-    let k = g.row.O-Output.kind in
-    let mean = g.row.O-Output.meaning in
+    let k = g.O.Output.kind in
+    let mean = g.O.Output.meaning in
     let b = c.args.core.now in
     let so = c.requires.sound in
     let xs = lows b.arcs in

@@ -17,8 +17,8 @@ loop-i-init g c = (shape_none _ c.requires.sound, refl, refl, refl)
 
 pub loop-i-preserved : goal.loop-i-preserved
 loop-i-preserved g c =
-    let mean = g.row.O-Output.meaning in
-    let f = join_or_empty g.row.O-Output.kind (mean c.args.front) in
+    let mean = g.O.Output.meaning in
+    let f = join_or_empty g.O.Output.kind (mean c.args.front) in
     let b = c.loop-i.core in
     let xs = lows b.arcs in
     let i = c.loop-i.i in
@@ -31,7 +31,7 @@ loop-i-preserved g c =
     let n : i < length (arcs_of mean xs) = simp length-map k in
     let q : arc_of mean a ≡ get_or (arcs_of mean xs) i (arc_of mean a) = ap (arc_of mean) (c.at_low-arc.ensures a) ∙ sym (get_or-map (arc_of mean) xs i a (arc_of mean a) k) in
     let v = ap (arcs_of mean) s.lows ∙ map-set (arc_of mean) xs i _ in
-    let put_at : g.row.O-Output.kind.Ideal → List (Edge g.row.O-Output.kind.Ideal) = λ y. set (arcs_of mean xs) i (record { byte = a.byte; target = a.target; output = y }) in
+    let put_at : g.O.Output.kind.Ideal → List (Edge g.O.Output.kind.Ideal) = λ y. set (arcs_of mean xs) i (record { byte = a.byte; target = a.target; output = y }) in
     let u = ap put_at c.join-output.ensures in
     let l : length (lows c.set_low.new.self) ≡ length xs = ap length s.lows ∙ length-set _ _ _ in (
       record {
@@ -54,8 +54,8 @@ loop-i-preserved g c =
 
 pub returns : goal.returns
 returns g c =
-    let mean = g.row.O-Output.meaning in
-    let f = join_or_empty g.row.O-Output.kind (mean c.args.front) in
+    let mean = g.O.Output.meaning in
+    let f = join_or_empty g.O.Output.kind (mean c.args.front) in
     let xs = lows c.loop-i.core.arcs in
     let inv = c.loop-i.invariant in
     record { shape = inv.0; start = inv.1; arcs = sym (range_none (output_under f) (arcs_of mean xs) c.loop-i.i c.args.to (omega arith)) ∙ inv.2; records = inv.3 }

@@ -14,8 +14,8 @@ use Rattle.pushing.proofs.push.push_record.Goals as goal
 
 pub returns : goal.returns
 returns g c =
-    let k = g.row.O-Output.kind in
-    let mean = g.row.O-Output.meaning in
+    let k = g.O.Output.kind in
+    let mean = g.O.Output.meaning in
     let front = mean c.args.front in
     let b = c.args.core.now in
     let m = c.push_arcs.new.core in
@@ -63,8 +63,8 @@ returns g c =
 
 pub returns-then-same : goal.returns-then-same
 returns-then-same g c =
-    let k = g.row.O-Output.kind in
-    let mean = g.row.O-Output.meaning in
+    let k = g.O.Output.kind in
+    let mean = g.O.Output.meaning in
     let b = c.args.core.now in
     let e : mean c.args.front ≡ k.empty = c.same.ensures.equal c.if-same.true ∙ c.empty.ensures in
     record { shape = shape_none b c.requires.sound; start = refl; records = λ joins. sym (pushes_nothing k g.met.O.Output.lawful (mean c.args.front) e c.args.depth (held mean b).open') }

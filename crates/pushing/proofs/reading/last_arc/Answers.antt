@@ -10,8 +10,8 @@ use Rattle.pushing.proofs.reading.last_arc.Goals as goal
 
 pub returns : goal.returns
 returns g c =
-    let k = g.row.O-Output.kind in
-    let mean = g.row.O-Output.meaning in
+    let k = g.O.Output.kind in
+    let mean = g.O.Output.meaning in
     let b = c.args.core.now in
     let xs = lows b.arcs in
     let x = c.record-state.result in

@@ -9,7 +9,7 @@ use Rattle.reading.proofs.ranking.count_lower.Goals as goal
 
 pub returns : goal.returns
 returns g c = λ m h.
-    let stored = held_stored g.row.O-Output.kind g.row.O-Output.meaning g.S.Store.bytes c.args.loaded.now m h in
-    lower_some g.row.O-Output.kind (bits_of g.S.Store.bytes c.args.loaded.now) (counts_of m.states) c.args.byte (at m.states c.args.state) c.in_ok-opened.opened c.arcs_of-row.result c.from.result c.sum_lower.result
+    let stored = held_stored g.O.Output.kind g.O.Output.meaning g.S.Store.bytes c.args.loaded.now m h in
+    lower_some g.O.Output.kind (bits_of g.S.Store.bytes c.args.loaded.now) (counts_of m.states) c.args.byte (at m.states c.args.state) c.in_ok-opened.opened c.arcs_of-row.result c.from.result c.sum_lower.result
     (c.in_ok-opened.ensures m h) (λ e. c.from.ensures ∙ ap bool_byte e) (λ e. c.from.ensures ∙ ap bool_byte e) c.arcs_of-row.ensures (c.sum_lower.ensures m h)
     (λ s e. ((stored.states c.args.state s e).rising, subst (λ (n : ℕ). n < 2 ^ 20) (stored.counted c.args.state s e) (stored.few_keys c.args.state s e)))

@@ -13,7 +13,7 @@ pub loop-byte-init : goal.loop-byte-init
 unfolding rank
 loop-byte-init g c = λ m h.
     let q = c.start-state.result in
-    let stored = held_stored g.row.O-Output.kind g.row.O-Output.meaning g.S.Store.bytes c.args.loaded.now m h in
+    let stored = held_stored g.O.Output.kind g.O.Output.meaning g.S.Store.bytes c.args.loaded.now m h in
     let inside : q < length m.states = omega (arith, h.many) in
     let s = at_below m.states q inside in
     (ap (λ (n : ℕ). rank_from m.states (counts_of m.states) n 0 c.args.key.now) (sym (c.start-state.ensures.state ∙ h.start)), omega (arith, stored.few_keys q s.0 s.1))
@@ -28,7 +28,7 @@ loop-byte-preserved g c = λ m h.
     let q = c.loop-byte.state in
     let counts = counts_of m.states in
     let next = c.in_ok-next.next in
-    let stored = held_stored g.row.O-Output.kind g.row.O-Output.meaning g.S.Store.bytes c.args.loaded.now m h in
+    let stored = held_stored g.O.Output.kind g.O.Output.meaning g.S.Store.bytes c.args.loaded.now m h in
     let few : c.loop-byte.keys + get_or counts q 0 < 2 ^ 20 = (c.loop-byte.invariant m h).1 in
     let within : next.keys + get_or counts next.target 0 ≤ get_or counts q 0 = lower_within m.states counts (at m.states q) _ (get_or counts q 0) next (λ s e. stored.counted q s e) (c.in_ok-next.ensures m h) in
     let sum : c.saturating_add-keys.result ≡ c.loop-byte.keys + next.keys = omega (arith, few, within, c.saturating_add-keys.ensures) in (

@@ -7,6 +7,6 @@ use Rattle.reading.proofs.ranking.rank_key.Given as goal
 
 abbrev pub invariant-loop-byte : goal.invariant-loop-byte
 invariant-loop-byte g l =
-    (m : Machine g.row.O-Output.kind.Ideal) → Holds g.row.O-Output.kind g.row.O-Output.meaning g.S.Store.bytes l.loaded m
+    (m : Machine g.O.Output.kind.Ideal) → Holds g.O.Output.kind g.O.Output.meaning g.S.Store.bytes l.loaded m
     → (rank m (counts_of m.states) l.key ≡ rank_from m.states (counts_of m.states) l.state l.keys (drop l.byte-index l.key))
     × (l.keys + get_or (counts_of m.states) l.state 0 < 2 ^ 20)

@@ -6,5 +6,5 @@ use Rattle.reading.proofs.ranking.ranks_stand.Goals as goal
 
 pub returns : goal.returns
 returns g c = λ P proper w.
-    ap (λ (counts : List ℕ). rank (minimal g.row.O-Output.kind P) counts w) (numbering g.row.O-Output.kind g.met.O.Output.lawful P proper).counted
-    ∙ (right_readings g.row.O-Output.kind g.met.O.Output.lawful P proper).ranks w
+    ap (λ (counts : List ℕ). rank (minimal g.O.Output.kind P) counts w) (numbering g.O.Output.kind g.met.O.Output.lawful P proper).counted
+    ∙ (right_readings g.O.Output.kind g.met.O.Output.lawful P proper).ranks w

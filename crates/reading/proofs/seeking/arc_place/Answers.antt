@@ -6,5 +6,5 @@ use Rattle.reading.proofs.seeking.arc_place.Goals as goal
 
 pub returns : goal.returns
 returns g c = λ m h.
-    place_some g.row.O-Output.kind (bits_of g.S.Store.bytes c.args.loaded.now) c.args.byte (at m.states c.args.state) c.in_ok-opened.opened c.arcs_of.result c.seek.result (c.in_ok-opened.ensures m h) c.arcs_of.ensures c.seek.ensures
-    (λ s e. ((held_stored g.row.O-Output.kind g.row.O-Output.meaning g.S.Store.bytes c.args.loaded.now m h).states c.args.state s e).rising)
+    place_some g.O.Output.kind (bits_of g.S.Store.bytes c.args.loaded.now) c.args.byte (at m.states c.args.state) c.in_ok-opened.opened c.arcs_of.result c.seek.result (c.in_ok-opened.ensures m h) c.arcs_of.ensures c.seek.ensures
+    (λ s e. ((held_stored g.O.Output.kind g.O.Output.meaning g.S.Store.bytes c.args.loaded.now m h).states c.args.state s e).rising)

@@ -4,21 +4,21 @@ use Rattle.reading.proofs.RowScans.{begins, ends, found, above, more}
 use Rattle.reading.proofs.seeking.seek.Goals as goal
 
 pub loop-i-init : goal.loop-i-init
-loop-i-init g c = λ arcs rise row. begins g.row.O-Output.kind (bits_of g.S.Store.bytes c.args.loaded.now) c.args.byte arcs c.args.row rise row
+loop-i-init g c = λ arcs rise row. begins g.O.Output.kind (bits_of g.S.Store.bytes c.args.loaded.now) c.args.byte arcs c.args.row rise row
 
 pub returns-then-here-byte : goal.returns-then-here-byte
 returns-then-here-byte g c = λ arcs rise row.
-    found g.row.O-Output.kind (bits_of g.S.Store.bytes c.args.loaded.now) c.args.byte arcs (c.args.row.left - c.loop-i.i) c.loop-i.place (c.loop-i.invariant arcs rise row) c.byte_at-here.result (omega arith) c.byte_at-here.ensures c.if-here-byte.true
+    found g.O.Output.kind (bits_of g.S.Store.bytes c.args.loaded.now) c.args.byte arcs (c.args.row.left - c.loop-i.i) c.loop-i.place (c.loop-i.invariant arcs rise row) c.byte_at-here.result (omega arith) c.byte_at-here.ensures c.if-here-byte.true
 
 pub returns-then-here-byte-2 : goal.returns-then-here-byte-2
 returns-then-here-byte-2 g c = λ arcs rise row.
-    above g.row.O-Output.kind (bits_of g.S.Store.bytes c.args.loaded.now) c.args.byte arcs (c.args.row.left - c.loop-i.i) c.loop-i.place (c.loop-i.invariant arcs rise row) c.byte_at-here.result (omega arith) c.byte_at-here.ensures (omega arith)
+    above g.O.Output.kind (bits_of g.S.Store.bytes c.args.loaded.now) c.args.byte arcs (c.args.row.left - c.loop-i.i) c.loop-i.place (c.loop-i.invariant arcs rise row) c.byte_at-here.result (omega arith) c.byte_at-here.ensures (omega arith)
 
 pub loop-i-preserved : goal.loop-i-preserved
 loop-i-preserved g c = λ arcs rise row.
-    more g.row.O-Output.kind (bits_of g.S.Store.bytes c.args.loaded.now) c.args.byte arcs (c.args.row.left - c.loop-i.i) c.loop-i.place (c.loop-i.invariant arcs rise row) c.byte_at-here.result (omega arith) c.byte_at-here.ensures
+    more g.O.Output.kind (bits_of g.S.Store.bytes c.args.loaded.now) c.args.byte arcs (c.args.row.left - c.loop-i.i) c.loop-i.place (c.loop-i.invariant arcs rise row) c.byte_at-here.result (omega arith) c.byte_at-here.ensures
     c.pass_arc-place.result c.pass_arc-place.ensures (omega arith) (c.args.row.left - (c.loop-i.i + 1)) (omega arith)
 
 pub returns : goal.returns
 returns g c = λ arcs rise row.
-    ends g.row.O-Output.kind (bits_of g.S.Store.bytes c.args.loaded.now) c.args.byte arcs (c.args.row.left - c.loop-i.i) c.loop-i.place (c.loop-i.invariant arcs rise row) (omega arith)
+    ends g.O.Output.kind (bits_of g.S.Store.bytes c.args.loaded.now) c.args.byte arcs (c.args.row.left - c.loop-i.i) c.loop-i.place (c.loop-i.invariant arcs rise row) (omega arith)

@@ -6,5 +6,5 @@ use Rattle.reading.proofs.walking.walk.Given as goal
 
 abbrev pub invariant-loop-byte : goal.invariant-loop-byte
 invariant-loop-byte g l =
-    (m : Machine g.row.O-Output.kind.Ideal) → Holds g.row.O-Output.kind g.row.O-Output.meaning g.S.Store.bytes l.loaded m
-    → walk g.row.O-Output.kind m l.string ≡ walk_from g.row.O-Output.kind m.states l.state (g.row.O-Output.meaning l.output) (drop l.byte-index l.string)
+    (m : Machine g.O.Output.kind.Ideal) → Holds g.O.Output.kind g.O.Output.meaning g.S.Store.bytes l.loaded m
+    → walk g.O.Output.kind m l.string ≡ walk_from g.O.Output.kind m.states l.state (g.O.Output.meaning l.output) (drop l.byte-index l.string)

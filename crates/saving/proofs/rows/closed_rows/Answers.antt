@@ -8,7 +8,7 @@ use Rattle.saving.proofs.rows.closed_rows.Goals as goal
 
 pub returns : goal.returns
 returns g c =
-    let mean = g.row.O-Output.meaning in
+    let mean = g.O.Output.meaning in
     let b = c.args.core.now in
     let sound = c.requires.sound in
     let states = total b.states.cells.now b.states.low b.states.high sound.stateroom in

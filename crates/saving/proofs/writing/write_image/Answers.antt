@@ -9,22 +9,22 @@ use Rattle.saving.proofs.writing.write_image.Goals as goal
 pub overflow_add-base : goal.overflow_add-base
 overflow_add-base g c =
     let rows = c.args.rows.now in
-    let small = image_small g.row.O-Output.kind g.row.O-Output.meaning g.met.O.Output.lawful g.met.O.Output.stored rows c.requires.shaped in
-    omega (arith, c.head_length.ensures, small, image_length g.row.O-Output.kind g.row.O-Output.meaning g.met.O.Output.lawful g.met.O.Output.stored rows c.requires.shaped)
+    let small = image_small g.O.Output.kind g.O.Output.meaning g.met.O.Output.lawful g.met.O.Output.stored rows c.requires.shaped in
+    omega (arith, c.head_length.ensures, small, image_length g.O.Output.kind g.O.Output.meaning g.met.O.Output.lawful g.met.O.Output.stored rows c.requires.shaped)
 
 pub write_index-requires : goal.write_index-requires
 write_index-requires g c =
     let rows = c.args.rows.now in
-    let small = image_small g.row.O-Output.kind g.row.O-Output.meaning g.met.O.Output.lawful g.met.O.Output.stored rows c.requires.shaped in
+    let small = image_small g.O.Output.kind g.O.Output.meaning g.met.O.Output.lawful g.met.O.Output.stored rows c.requires.shaped in
     record {
       shaped = c.requires.shaped;
-      small = omega (arith, c.head_length.ensures, small, image_length g.row.O-Output.kind g.row.O-Output.meaning g.met.O.Output.lawful g.met.O.Output.stored rows c.requires.shaped);
+      small = omega (arith, c.head_length.ensures, small, image_length g.O.Output.kind g.O.Output.meaning g.met.O.Output.lawful g.met.O.Output.stored rows c.requires.shaped);
     }
 
 pub returns : goal.returns
 returns g c =
-    let k = g.row.O-Output.kind in
-    let mean = g.row.O-Output.meaning in
+    let k = g.O.Output.kind in
+    let mean = g.O.Output.meaning in
     let rows = c.args.rows.now in
     let head = head_bits k (machine_of k mean rows) rows.keys in
     let base : c.head_length.result + 32 * length rows.states.now ≡ length head + 32 * length (machine_of k mean rows).states =

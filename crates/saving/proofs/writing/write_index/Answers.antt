@@ -10,13 +10,13 @@ use Rattle.saving.proofs.writing.write_index.Goals as goal
 pub overflow-cast-place : goal.overflow-cast-place
 overflow-cast-place g c =
     let rows = c.args.rows.now in
-    let f = record_of g.row.O-Output.kind g.row.O-Output.meaning rows.arcs.now in
+    let f = record_of g.O.Output.kind g.O.Output.meaning rows.arcs.now in
     omega (arith, c.loop-state.invariant.1, records_within f rows.states.now c.loop-state.state-index, c.requires.small)
 
 pub place_behind-place-requires : goal.place_behind-place-requires
 place_behind-place-requires g c =
     let rows = c.args.rows.now in
-    let f = record_of g.row.O-Output.kind g.row.O-Output.meaning rows.arcs.now in
+    let f = record_of g.O.Output.kind g.O.Output.meaning rows.arcs.now in
     let n = length rows.arcs.now in
     let p = placed_at n rows.states.now c.loop-state.state-index c.state-item.result (omega arith) (packed_placed 0 n rows.states.now c.requires.shaped.packed) c.state-item.is in
     record {
@@ -29,7 +29,7 @@ pub loop-state-preserved : goal.loop-state-preserved
 loop-state-preserved g c =
     let rows = c.args.rows.now in
     let took = g.K.BitSink.took in
-    let f = record_of g.row.O-Output.kind g.row.O-Output.meaning rows.arcs.now in
+    let f = record_of g.O.Output.kind g.O.Output.meaning rows.arcs.now in
     let i = c.loop-state.state-index in
     let x = c.state-item.result in
     let before = map f (take i rows.states.now) in
@@ -43,5 +43,5 @@ pub returns : goal.returns
 returns g c =
     let rows = c.args.rows.now in
     subst (λ row. g.K.BitSink.took c.args.sink.now row c.loop-state.sink)
-    (ap (λ ss. index_bits (places c.args.base (map (record_of g.row.O-Output.kind g.row.O-Output.meaning rows.arcs.now) ss))) (take_all c.loop-state.state-index rows.states.now (omega arith)))
+    (ap (λ ss. index_bits (places c.args.base (map (record_of g.O.Output.kind g.O.Output.meaning rows.arcs.now) ss))) (take_all c.loop-state.state-index rows.states.now (omega arith)))
     c.loop-state.invariant.0

@@ -9,7 +9,7 @@ pub returns : goal.returns
 returns g c =
     let took = g.K.BitSink.took in
     let taking = g.K.BitSink.taking in
-    let mean = g.row.O-Output.meaning in
+    let mean = g.O.Output.meaning in
     let s = c.args.state.now in
     let flag = subst (λ v. took c.args.sink.now (bits 1 v) c.put.new.self) (c.from.ensures ∙ flag_of s.ends (mean s.end)) c.put.ensures in
     let count = subst (λ v. took c.put.new.self (bits 9 v) c.put-2.new.self) (sym (length-map c.args.own.now (arc_of mean) ∙ c.requires.own)) c.put-2.ensures in

@@ -26,7 +26,7 @@ pub invariant_of-result : goal.invariant_of-result
 invariant_of-result g c =
     let e = c.fresh-core.ensures in
     let s = e.sound in
-    (s.stateroom, (s.arcroom, (s.few, (s.arcfew, (s.slotroom, (test_laid _ _ s.laid, (test_since _ _ s.since, (test_packed _ _ _ s.packed, (s.known, (s.used, (s.paired, (λ z. ap (λ (h : Held g.row.O-Output.kind.Ideal). h.pairs) e.holds, tt))))))))))))
+    (s.stateroom, (s.arcroom, (s.few, (s.arcfew, (s.slotroom, (test_laid _ _ s.laid, (test_since _ _ s.since, (test_packed _ _ _ s.packed, (s.known, (s.used, (s.paired, (λ z. ap (λ (h : Held g.O.Output.kind.Ideal). h.pairs) e.holds, tt))))))))))))
 
 pub returns : goal.returns
 returns g c =

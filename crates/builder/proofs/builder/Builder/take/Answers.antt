@@ -15,10 +15,10 @@ invariant_of-self g c =
 
 pub returns : goal.returns
 returns g c =
-    let k = g.row.O-Output.kind in
+    let k = g.O.Output.kind in
     let laws = g.met.O.Output.lawful in
-    let mean = g.row.O-Output.meaning in
-    let digested = g.row.O-Output.digested in
+    let mean = g.O.Output.meaning in
+    let digested = g.O.Output.digested in
     let key = c.args.key.now in
     let x = mean c.args.output in
     let before = c.args.self.now.core in

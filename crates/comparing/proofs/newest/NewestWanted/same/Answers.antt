@@ -14,7 +14,7 @@ arcs_at-requires g c =
 
 pub returns-then-same_end : goal.returns-then-same_end
 returns-then-same_end g c =
-    let mean = g.row.O-Output.meaning in
+    let mean = g.O.Output.meaning in
     let s = c.args.self.now in
     let x = c.state_at-state.result in
     let H = s.closed.now in
@@ -25,7 +25,7 @@ returns-then-same_end g c =
       equal = λ t.
           let e = c.same_end.ensures.equal c.if-same_end.true in
           let a = c.same_arcs.ensures.equal t ∙ part in
-          let n : ◌≡◌ {A = Node g.row.O-Output.kind.Ideal} (record { end = end_of mean s.state; arcs = arcs_of mean s.arcs.now }) (closed_state mean (arcs_of mean H) x) = λ i. record { end = e i; arcs = a i } in
+          let n : ◌≡◌ {A = Node g.O.Output.kind.Ideal} (record { end = end_of mean s.state; arcs = arcs_of mean s.arcs.now }) (closed_state mean (arcs_of mean H) x) = λ i. record { end = e i; arcs = a i } in
           n ∙ there;
-      different = λ t q. c.same_arcs.ensures.different t (ap (λ (n : Node g.row.O-Output.kind.Ideal). n.arcs) (q ∙ sym there) ∙ sym part);
+      different = λ t q. c.same_arcs.ensures.different t (ap (λ (n : Node g.O.Output.kind.Ideal). n.arcs) (q ∙ sym there) ∙ sym part);
     }
