@@ -23,11 +23,11 @@ ends b x so h e = laid_top (length (lows b.arcs)) (highs b.states) x h so.laid e
 pub offset_bounds-open-top : goal.offset_bounds-open-top
 offset_bounds-open-top g c = let x = c.at_high-top.result in omega (arith, ends c.args.core.now x c.requires.sound c.requires.top (c.at_high-top.ensures x), ap length c.below-open.ensures)
 
-pub slice-bounds-arcs-count : goal.slice-bounds-arcs-count
-slice-bounds-arcs-count g c = let x = c.at_high-top.result in omega (arith, ends c.args.core.now x c.requires.sound c.requires.top (c.at_high-top.ensures x), ap length c.below-open.ensures)
+pub slice_bounds-arcs-count : goal.slice_bounds-arcs-count
+slice_bounds-arcs-count g c = let x = c.at_high-top.result in omega (arith, ends c.args.core.now x c.requires.sound c.requires.top (c.at_high-top.ensures x), ap length c.below-open.ensures)
 
-pub slice-bounds-arcs-start : goal.slice-bounds-arcs-start
-slice-bounds-arcs-start g c = let x = c.at_high-top.result in omega (arith, ends c.args.core.now x c.requires.sound c.requires.top (c.at_high-top.ensures x), ap length c.below-open.ensures)
+pub slice_bounds-arcs-start : goal.slice_bounds-arcs-start
+slice_bounds-arcs-start g c = let x = c.at_high-top.result in omega (arith, ends c.args.core.now x c.requires.sound c.requires.top (c.at_high-top.ensures x), ap length c.below-open.ensures)
 
 pub look_up-requires : goal.look_up-requires
 look_up-requires g c =

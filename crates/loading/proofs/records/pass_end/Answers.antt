@@ -2,9 +2,9 @@ use Rattle.std.proofs.Common.{rules}
 use Rattle.images.specs.Loads.{end_output}
 use Rattle.loading.proofs.records.pass_end.Goals as goal
 
-pub returns-in_err--output : goal.returns-in_err--output
+pub returns-in_err-_output : goal.returns-in_err-_output
 unfolding end_output
-returns-in_err--output g c = search rules
+returns-in_err-_output g c = search rules
 
 pub returns-then-flag-eq1 : goal.returns-then-flag-eq1
 unfolding end_output

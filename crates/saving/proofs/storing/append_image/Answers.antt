@@ -19,7 +19,7 @@ returns g c =
     let bytes = g.S.Store.bytes in
     let room = g.S.Store.room in
     let begun : s.store.now ≡ old = ap (λ x. x.now) first.store in
-    let (exit, lent) = c.store·1.given in
+    let (exit, lent) = c.store-1.given in
     let ends : exit ≡ u.store.now = lent (sym (done.follows.same ∙ grown.same ∙ ap (λ x. x.ghost_name) first.store)) in
     let given = finished_run (room old) (room s.store.now) (room t.store.now) (bytes old) (bytes s.store.now) (bytes t.store.now) (bytes u.store.now)
     s.refused t.refused c.finish.result (pending s.filled s.partial) (pending t.filled t.partial) row

@@ -5,8 +5,8 @@ use Rattle.records.proofs.Testing.{test_laid, test_since, test_packed}
 use Rattle.builder.proofs.Allowed.{used_within, used_arcs}
 use Rattle.builder.proofs.builder.Builder.begin.Goals as goal
 
-pub slice-bounds-fresh-end : goal.slice-bounds-fresh-end
-slice-bounds-fresh-end g c =
+pub slice_bounds-fresh-end : goal.slice_bounds-fresh-end
+slice_bounds-fresh-end g c =
     let u = used_within (length c.args.states.now) (length c.args.arcs.now) (length c.args.slots.now) in
     sym (length-take-le c.usable-n.result c.args.states.now (omega (arith, u.0, c.usable-n.ensures)))
 

@@ -12,6 +12,6 @@ returns-in_err-head g c =
 pub returns : goal.returns
 returns g c =
     record {
-      loads = load_reads g.O.Output.kind g.O.Output.meaning g.S.Store.bytes (length c.args.working.now) c.args.store c.held.result c.in_ok-head.head c.in_ok-head.-behind c.held.ensures.store c.in_ok-head.ensures.within.0 c.held.ensures.start c.held.ensures.index c.held.ensures.output c.in_ok-head.ensures.answers;
+      loads = load_reads g.O.Output.kind g.O.Output.meaning g.S.Store.bytes (length c.args.working.now) c.args.store c.held.result c.in_ok-head.head c.in_ok-head._behind c.held.ensures.store c.in_ok-head.ensures.within.0 c.held.ensures.start c.held.ensures.index c.held.ensures.output c.in_ok-head.ensures.answers;
       cleared = c.clear.ensures ∙ ap (λ (n : ℕ). replicate {A = ℕ} n 0) c.read_whole-answer.auto.working;
     }
