@@ -10,8 +10,8 @@ use Rattle.records.proofs.Laying.{led_laid, packed_placed, packed_push}
 use Rattle.closing.proofs.Popping.{left, led_left, opens_left, longer, states_after, counts_after}
 use Rattle.closing.proofs.settle_top.Goals as goal
 
-pub overflow-cast-first : goal.overflow-cast-first
-overflow-cast-first g c =
+pub overflow_cast-first : goal.overflow_cast-first
+overflow_cast-first g c =
     let a = c.settle_all.new.self in
     let e = c.settle_all.ensures in
     let t = total a.cells.now a.low a.high e.room in

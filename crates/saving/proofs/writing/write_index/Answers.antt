@@ -7,8 +7,8 @@ use Rattle.saving.specs.Standing.{record_of}
 use Rattle.saving.proofs.Turns.{records_more, records_within, record_within, index_more}
 use Rattle.saving.proofs.writing.write_index.Goals as goal
 
-pub overflow-cast-place : goal.overflow-cast-place
-overflow-cast-place g c =
+pub overflow_cast-place : goal.overflow_cast-place
+overflow_cast-place g c =
     let rows = c.args.rows.now in
     let f = record_of g.O.Output.kind g.O.Output.meaning rows.arcs.now in
     omega (arith, c.loop-state.invariant.1, records_within f rows.states.now c.loop-state.state-index, c.requires.small)

@@ -47,7 +47,7 @@ returns-in_err-arc g t c =
     let loaded = c.args.loaded.now in
     seek_cut k g.met.O.Output.lawful g.O.Output.meaning (bits_of g.S.Store.bytes loaded) (Holds k g.O.Output.meaning g.S.Store.bytes loaded)
     c.args.state (g.O.Output.meaning c.args.output.now) c.args.depth c.in_ok-opened.opened c.in_ok-opened.ensures
-    c.loop-i.-i c.loop-i.row c.loop-i.invariant.1 c.args.buffer.now c.loop-i.buffer c.loop-i.invariant.0
+    c.loop-i._i c.loop-i.row c.loop-i.invariant.1 c.args.buffer.now c.loop-i.buffer c.loop-i.invariant.0
     c.from_residual-in_err-arc.result c.from_residual-in_err-arc.ensures c.loop-i-test.true c.in_err-arc.ensures
 
 pub returns-in-Some-seek : goal.returns-in-Some-seek
@@ -57,7 +57,7 @@ returns-in-Some-seek g t c =
     let room : c.args.depth < length c.args.buffer.now = omega arith in
     seek_found k g.met.O.Output.lawful g.O.Output.meaning (bits_of g.S.Store.bytes loaded) (Holds k g.O.Output.meaning g.S.Store.bytes loaded)
     c.args.state (g.O.Output.meaning c.args.output.now) c.args.depth c.in_ok-opened.opened c.in_ok-opened.ensures
-    c.loop-i.-i c.loop-i.row c.loop-i.invariant.1 c.args.buffer.now c.loop-i.buffer c.loop-i.invariant.0
+    c.loop-i._i c.loop-i.row c.loop-i.invariant.1 c.args.buffer.now c.loop-i.buffer c.loop-i.invariant.0
     (c.in_ok-arc.arc, c.in_ok-arc.behind) c.in_ok-arc.ensures c.in-Some.rest c.in-Some.ensures c.seek.new.buffer
     (λ m h s here. ((held_stored k g.O.Output.meaning g.S.Store.bytes loaded m h).states c.args.state s here).rising) c.in-Some-seek.end room c.in-Some-seek.ensures c.put.new.buffer c.put.ensures
 
@@ -70,7 +70,7 @@ loop-i-preserved g t c =
         w.buffer-is ∙ w.in_default-seek.ensures.0 ∙ c.loop-i.invariant.0,
         passing_behind k g.met.O.Output.lawful g.O.Output.meaning (bits_of g.S.Store.bytes loaded) (Holds k g.O.Output.meaning g.S.Store.bytes loaded)
             c.args.state (g.O.Output.meaning c.args.output.now) c.args.depth c.in_ok-opened.opened c.in_ok-opened.ensures
-            c.loop-i.-i c.loop-i.row c.loop-i.invariant.1 c.args.buffer.now c.loop-i.buffer c.loop-i.invariant.0
+            c.loop-i._i c.loop-i.row c.loop-i.invariant.1 c.args.buffer.now c.loop-i.buffer c.loop-i.invariant.0
             (c.in_ok-arc.arc, c.in_ok-arc.behind) c.in_ok-arc.ensures w.in-Some.rest w.in-Some.ensures w.seek.new.buffer
             w.in_default-seek.ensures,
       )
@@ -78,7 +78,7 @@ loop-i-preserved g t c =
         w.buffer-is ∙ c.loop-i.invariant.0,
         passing_other k g.met.O.Output.lawful g.O.Output.meaning (bits_of g.S.Store.bytes loaded) (Holds k g.O.Output.meaning g.S.Store.bytes loaded)
             c.args.state (g.O.Output.meaning c.args.output.now) c.args.depth c.in_ok-opened.opened c.in_ok-opened.ensures
-            c.loop-i.-i c.loop-i.row c.loop-i.invariant.1 c.args.buffer.now c.loop-i.buffer c.loop-i.invariant.0
+            c.loop-i._i c.loop-i.row c.loop-i.invariant.1 c.args.buffer.now c.loop-i.buffer c.loop-i.invariant.0
             (c.in_ok-arc.arc, c.in_ok-arc.behind) c.in_ok-arc.ensures w.in_default.ensures,
       )
     ]
@@ -89,5 +89,5 @@ returns g t c =
     let loaded = c.args.loaded.now in
     seek_passed k g.met.O.Output.lawful g.O.Output.meaning (bits_of g.S.Store.bytes loaded) (Holds k g.O.Output.meaning g.S.Store.bytes loaded)
     c.args.state (g.O.Output.meaning c.args.output.now) c.args.depth c.in_ok-opened.opened c.in_ok-opened.ensures
-    c.loop-i.-i c.loop-i.row c.loop-i.invariant.1 c.args.buffer.now c.loop-i.buffer c.loop-i.invariant.0
+    c.loop-i._i c.loop-i.row c.loop-i.invariant.1 c.args.buffer.now c.loop-i.buffer c.loop-i.invariant.0
     c.ends_with.result c.ends_with.ensures c.if-ends_with.false (omega arith)

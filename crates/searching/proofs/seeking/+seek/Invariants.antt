@@ -11,4 +11,4 @@ decreases-seek g l = 64 - l.depth
 abbrev pub invariant-loop-i : goal.invariant-loop-i
 invariant-loop-i g l =
     (l.buffer ≡ l.initial.buffer)
-    × Passing g.O.Output.kind (bits_of g.S.Store.bytes l.loaded) (Holds g.O.Output.kind g.O.Output.meaning g.S.Store.bytes l.loaded) l.state (g.O.Output.meaning l.output) l.depth l.-i l.row
+    × Passing g.O.Output.kind (bits_of g.S.Store.bytes l.loaded) (Holds g.O.Output.kind g.O.Output.meaning g.S.Store.bytes l.loaded) l.state (g.O.Output.meaning l.output) l.depth l._i l.row
