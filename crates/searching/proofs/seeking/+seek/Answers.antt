@@ -5,7 +5,7 @@ use Rattle.lookups.specs.Lookups.{bits_of}
 use Rattle.lookups.proofs.HeldStates.{held_stored}
 use Rattle.searching.proofs.SearchSteps.{seek_missing, seek_ends, seek_deep, passing_none, seek_passed, seek_cut, passing_other, passing_behind, seek_found}
 use Rattle.searching.proofs.seeking.+seek.Goals as goal
-use Rattle.searching.proofs.seeking.+seek.Goals.{in-Some+in-default-seek, in_default}
+use Rattle.searching.proofs.seeking.+seek.Goals.{in-Some+in_default-seek, in_default}
 
 pub returns-in_err-opened : goal.returns-in_err-opened
 returns-in_err-opened g t c =
@@ -66,7 +66,7 @@ loop-i-preserved g t c =
     let k = g.O.Output.kind in
     let loaded = c.args.loaded.now in
     elim c.match-left.branch [
-      | in-Some+in-default-seek w ↦ (
+      | in-Some+in_default-seek w ↦ (
         w.buffer-is ∙ w.in_default-seek.ensures.0 ∙ c.loop-i.invariant.0,
         passing_behind k g.met.O.Output.lawful g.O.Output.meaning (bits_of g.S.Store.bytes loaded) (Holds k g.O.Output.meaning g.S.Store.bytes loaded)
             c.args.state (g.O.Output.meaning c.args.output.now) c.args.depth c.in_ok-opened.opened c.in_ok-opened.ensures

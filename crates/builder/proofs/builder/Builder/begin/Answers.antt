@@ -26,7 +26,20 @@ pub invariant_of-result : goal.invariant_of-result
 invariant_of-result g c =
     let e = c.fresh-core.ensures in
     let s = e.sound in
-    (s.stateroom, (s.arcroom, (s.few, (s.arcfew, (s.slotroom, (test_laid _ _ s.laid, (test_since _ _ s.since, (test_packed _ _ _ s.packed, (s.known, (s.used, (s.paired, (λ z. ap (λ (h : Held g.O.Output.kind.Ideal). h.pairs) e.holds, tt))))))))))))
+    record {
+      stateroom = s.stateroom;
+      arcroom = s.arcroom;
+      few = s.few;
+      arcfew = s.arcfew;
+      slotroom = s.slotroom;
+      lain = test_laid _ _ s.laid;
+      begun = test_since _ _ s.since;
+      tight = test_packed _ _ _ s.packed;
+      known = s.known;
+      taken = s.used;
+      paired = s.paired;
+      first = λ z. ap (λ (h : Held g.O.Output.kind.Ideal). h.pairs) e.holds;
+    }
 
 pub returns : goal.returns
 returns g c =

@@ -9,7 +9,19 @@ close_all-requires g c = record { sound = builder_sound c.args.self }
 pub invariant_of-result : goal.invariant_of-result
 invariant_of-result g c =
     let s = c.close_all.ensures.sound in
-    (s.stateroom, (s.arcroom, (s.few, (s.arcfew, (s.slotroom, (test_laid _ _ s.laid, (test_since _ _ s.since, (test_packed _ _ _ s.packed, (s.known, (s.used, (s.paired, tt)))))))))))
+    record {
+      stateroom = s.stateroom;
+      arcroom = s.arcroom;
+      few = s.few;
+      arcfew = s.arcfew;
+      slotroom = s.slotroom;
+      lain = test_laid _ _ s.laid;
+      begun = test_since _ _ s.since;
+      tight = test_packed _ _ _ s.packed;
+      known = s.known;
+      taken = s.used;
+      paired = s.paired;
+    }
 
 pub returns : goal.returns
 returns g c = record {

@@ -11,7 +11,20 @@ pub invariant_of-self : goal.invariant_of-self
 invariant_of-self g c =
     let r = c.add.ensures.ready in
     let s = r.sound in
-    (s.stateroom, (s.arcroom, (s.few, (s.arcfew, (s.slotroom, (test_laid _ _ s.laid, (test_since _ _ s.since, (test_packed _ _ _ s.packed, (s.known, (s.used, (s.paired, (r.first, tt))))))))))))
+    record {
+      stateroom = s.stateroom;
+      arcroom = s.arcroom;
+      few = s.few;
+      arcfew = s.arcfew;
+      slotroom = s.slotroom;
+      lain = test_laid _ _ s.laid;
+      begun = test_since _ _ s.since;
+      tight = test_packed _ _ _ s.packed;
+      known = s.known;
+      taken = s.used;
+      paired = s.paired;
+      first = r.first;
+    }
 
 pub returns : goal.returns
 returns g c =
