@@ -1,5 +1,5 @@
 -- A pair added to what is held gives what is held with that pair. Assumes ascending keys and storable outputs.
-use Rattle.std.proofs.Common.{◌≡◌, ℕ, suc, ◌+◌, ◌-◌, ◌<◌, true, List, [], ◌∷◌, ◌++◌, length, drop, sym, refl, ap, ◌∙◌, subst, ap₂, append_assoc, append-nil, arith, length-append}
+use Rattle.std.proofs.Common.{◌≡◌, ℕ, suc, ◌-◌, ◌<◌, true, List, [], ◌∷◌, ◌++◌, length, drop, sym, refl, ap, ◌∙◌, subst, ap₂, append_assoc, append-nil, arith, length-append}
 use mathlib.Core.List.{append_cancel_left}
 use mathlib.Core.Option.{Option, none, some}
 use Rattle.outputs.specs.Kinds.{Kind, Laws}

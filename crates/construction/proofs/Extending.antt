@@ -1,5 +1,5 @@
 -- The records of what is new in a key. Assumes the laws of a kind.
-use Rattle.std.proofs.Common.{◌≡◌, ℕ, suc, ◌+◌, ◌-◌, true, false, List, [], ◌∷◌, ◌++◌, length, sym, refl, ap, ◌∙◌, ap₂, append-nil, arith, eq-eqb}
+use Rattle.std.proofs.Common.{◌≡◌, ℕ, suc, ◌-◌, true, false, List, [], ◌∷◌, ◌++◌, length, sym, refl, ap, ◌∙◌, ap₂, append-nil, arith, eq-eqb}
 use mathlib.Core.Option.{Option, none, some}
 use Rattle.outputs.specs.Kinds.{Kind, Laws}
 use Rattle.machines.specs.Keys.{Key}

@@ -1,9 +1,8 @@
 -- The incremental construction: what a builder holds after some pairs, and the machine that it seals. Assumes nothing.
-use Rattle.std.specs.Prelude.{ℕ, zero, suc, ◌+◌, ◌-◌, Bool, true, false, List, [], ◌∷◌, ◌++◌, length, take, drop}
-use Rattle.std.proofs.Math.Option.{Option, none, some}
+use Rattle.std.specs.Prelude.{ℕ, zero, suc, ◌-◌, List, [], ◌∷◌, ◌++◌, length, drop}
 use Rattle.outputs.specs.Kinds.{Kind}
 use Rattle.machines.specs.Keys.{Key, common_length}
-use Rattle.machines.specs.Machines.{Arc, State, Machine}
+use Rattle.machines.specs.Machines.{Machine}
 use Rattle.machines.specs.Pairs.{Pairs}
 use Rattle.construction.specs.Records.{Open, Closed, Held, state_of, blank, newest_key}
 use Rattle.construction.specs.Steps.{settle, push_down, extend, extend_last}

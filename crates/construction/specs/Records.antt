@@ -1,5 +1,5 @@
 -- What a builder holds while pairs come in: closed states, open records, and how records are compared. Assumes nothing.
-use Rattle.std.specs.Prelude.{ℕ, suc, ◌+◌, ◌-◌, Bool, true, false, ◌&&◌, List, [], ◌∷◌, ◌++◌, map, length, ◌==◌}
+use Rattle.std.specs.Prelude.{ℕ, suc, ◌+◌, Bool, true, false, ◌&&◌, List, [], ◌∷◌, length, ◌==◌}
 use Rattle.std.proofs.Math.Option.{Option, none, some}
 use Rattle.outputs.specs.Kinds.{Kind, same}
 use Rattle.machines.specs.Machines.{Arc, State}

@@ -1,9 +1,9 @@
 -- The steps of the incremental construction: closing what a new key leaves, pushing outputs along what it shares, and adding what is new. Assumes nothing.
-use Rattle.std.specs.Prelude.{ℕ, zero, suc, ◌+◌, ◌-◌, Bool, true, false, List, [], ◌∷◌, ◌++◌, map, length, take, drop}
+use Rattle.std.specs.Prelude.{ℕ, ◌-◌, List, [], ◌∷◌, ◌++◌, map, length}
 use Rattle.std.proofs.Math.Option.{Option, none, some}
 use Rattle.outputs.specs.Kinds.{Kind}
 use Rattle.machines.specs.Keys.{Key}
-use Rattle.machines.specs.Machines.{Arc, State}
+use Rattle.machines.specs.Machines.{Arc}
 use Rattle.construction.specs.Records.{Open, Closed, state_of, blank, number_of}
 
 -- the last arc leads to state q

@@ -1,7 +1,7 @@
 -- The bytes of a row of bits whose last byte is filled with zeros. Assumes nothing.
-use Rattle.std.proofs.Common.{◌≡◌, ℕ, zero, suc, ◌+◌, ◌-◌, ◌*◌, ◌/◌, ◌%◌, ◌^◌, ◌<◌, ◌≤◌, min, Bool, false, List, [], ◌∷◌, ◌++◌, length, take, drop, None, Option, sym, refl, ap, ◌∙◌, subst, arith, length-append, length-drop}
+use Rattle.std.proofs.Common.{◌≡◌, ℕ, zero, suc, ◌+◌, ◌-◌, ◌*◌, ◌/◌, ◌%◌, ◌<◌, ◌≤◌, min, Bool, List, [], ◌∷◌, ◌++◌, length, take, drop, None, Option, sym, refl, ap, ◌∙◌, subst, arith, length-append, length-drop}
 use Rattle.std.proofs.lemmas.List.{drop-drop, drop_all}
-use Rattle.outputs.specs.Bits.{bits, bit, value, packed, filling}
+use Rattle.outputs.specs.Bits.{bits, value, packed, filling}
 use Rattle.outputs.specs.TextReading.{octets}
 use Rattle.outputs.specs.BitRows.{length_bits}
 use Rattle.stores.specs.declared.Refusal.{Refusal}

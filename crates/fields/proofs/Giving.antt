@@ -1,15 +1,14 @@
 -- One byte given to a store, and the whole bytes of a row in turn. Assumes nothing.
-use Rattle.std.proofs.Common.{◌≡◌, ℕ, suc, ◌+◌, ◌-◌, ◌*◌, ◌/◌, ◌%◌, ◌^◌, ◌<◌, ◌≤◌, Bool, false, List, [], ◌∷◌, ◌++◌, length, take, drop, is_some, Some, None, Ok, Err, Option, Result, sym, refl, ap, ◌∙◌, subst, add-one, arith, length-append}
+use Rattle.std.proofs.Common.{◌≡◌, ℕ, ◌+◌, ◌-◌, ◌*◌, ◌/◌, ◌%◌, ◌^◌, ◌<◌, ◌≤◌, false, List, [], ◌∷◌, ◌++◌, length, is_some, Some, None, Option, sym, ap, ◌∙◌, subst, add-one, arith, length-append}
 use Rattle.std.proofs.lemmas.List.{take_all, take_at}
-use Rattle.outputs.specs.Bits.{bits, value}
+use Rattle.outputs.specs.Bits.{bits}
 use Rattle.outputs.specs.TextReading.{octets}
 use Rattle.outputs.specs.BitRows.{length_bits}
 use Rattle.outputs.proofs.TextReads.{octets_more}
 use Rattle.stores.specs.declared.Refusal.{Refusal}
 use Rattle.stores.specs.declared.Refusal.TheVariants.{Full}
-use Rattle.stores.specs.Appends.{Appended}
-use Rattle.fields.specs.Rows.{whole, left}
-use Rattle.fields.specs.Packs.{over, Gave}
+use Rattle.fields.specs.Rows.{whole}
+use Rattle.fields.specs.Packs.{Gave}
 use Rattle.fields.specs.PackLaws.{over_room, over_full, gave_more}
 use Rattle.fields.proofs.RowBits.{byte_of}
 

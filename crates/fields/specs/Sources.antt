@@ -1,5 +1,5 @@
 -- The bits of a store: what is said of a field that runs past the end is the same from every place within.
-use Rattle.std.specs.Prelude.{◌≡◌, ℕ, ◌*◌, ◌/◌, ◌≤◌, max, List, length}
+use Rattle.std.specs.Prelude.{◌≡◌, ℕ, ◌/◌, ◌≤◌, max, List, length}
 use Rattle.std.proofs.Common.{ap, arith}
 use Rattle.outputs.specs.Bits.{spread}
 use Rattle.outputs.specs.TextLaws.{length_spread}

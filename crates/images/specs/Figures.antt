@@ -5,13 +5,13 @@ use Rattle.outputs.specs.Kinds.{Kind, same}
 use Rattle.outputs.specs.Numbers.{numbers}
 use Rattle.outputs.specs.Texts.{texts}
 use Rattle.machines.specs.Lists.{at}
-use Rattle.machines.specs.Keys.{Key, same_key}
-use Rattle.machines.specs.Machines.{Arc, Machine, arc_at, count_arcs}
+use Rattle.machines.specs.Keys.{same_key}
+use Rattle.machines.specs.Machines.{Arc, arc_at, count_arcs}
 use Rattle.machines.specs.Pairs.{Pairs}
 use Rattle.machines.specs.Minimal.{minimal}
 use Rattle.machines.specs.Runs.{told}
 use Rattle.images.specs.Images.{image}
-use Rattle.images.specs.Steps.{Step, reads, refuses, Refusal}
+use Rattle.images.specs.Steps.{Step, reads, refuses}
 use Rattle.images.specs.Loads.{load}
 use Rattle.images.specs.RoundTrip.{Within}
 

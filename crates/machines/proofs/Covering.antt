@@ -1,5 +1,5 @@
 -- Prefixes of which no two are alike are no more than others that each of them is alike to, and have no more next bytes. Assumes the laws of a kind.
-use Rattle.std.proofs.Common.{◌≡◌, ℕ, zero, suc, ◌+◌, ◌≤◌, true, false, ◌⊎◌, List, [], ◌∷◌, ◌++◌, length, sym, refl, ap, ◌∙◌, subst, inl, inr, arith}
+use Rattle.std.proofs.Common.{◌≡◌, ℕ, zero, suc, ◌≤◌, true, false, ◌⊎◌, List, [], ◌∷◌, ◌++◌, length, sym, refl, ap, ◌∙◌, subst, inl, inr, arith}
 use mathlib.Core.Option.{Option, some}
 use borrow.Author.Tests.{both_ways}
 use Rattle.outputs.specs.Kinds.{Kind, Laws}

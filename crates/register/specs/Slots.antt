@@ -1,5 +1,5 @@
 -- The slots of a register: in which order they are probed, and which states are entered. Assumes nothing.
-use Rattle.std.specs.Prelude.{◌≡◌, ℕ, zero, suc, ◌+◌, ◌-◌, ◌<◌, ◌≤◌, List, [], ◌∷◌, length, slice_index, slice_index_or}
+use Rattle.std.specs.Prelude.{◌≡◌, ℕ, zero, suc, ◌+◌, ◌<◌, ◌≤◌, List, [], ◌∷◌, length, slice_index, slice_index_or}
 
 -- P of each slot that is probed before slot i, where probing starts at home, goes up to the end of l slots and on from slot 0
 pub record EachBefore (home l i : ℕ) (P : ℕ → Type 0) : Type 0 where

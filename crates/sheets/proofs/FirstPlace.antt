@@ -1,7 +1,7 @@
 -- A list cut at the first place of a byte is what stands before, the byte and what stands behind. Assumes that the byte stands there.
-use Rattle.std.proofs.Common.{◌≡◌, ℕ, ◌+◌, ◌-◌, ◌<◌, ◌≤◌, List, ◌∷◌, ◌++◌, length, get_or, take, drop, sym, refl, ap, ◌∙◌, arith, length-drop}
+use Rattle.std.proofs.Common.{◌≡◌, ℕ, ◌+◌, ◌-◌, ◌<◌, ◌≤◌, List, ◌∷◌, ◌++◌, length, get_or, take, drop, sym, ap, ◌∙◌, arith, length-drop}
 use Rattle.std.proofs.lemmas.List.{take-append-drop, drop_more, take_all, length-take-le, get_or-take}
-use Rattle.sheets.specs.Lines.{Lacks, Cuts}
+use Rattle.sheets.specs.Lines.{Cuts}
 
 pub cut_there : (byte : ℕ) (line : List ℕ) (place : ℕ)
     → place < length line

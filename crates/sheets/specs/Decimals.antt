@@ -1,5 +1,5 @@
 -- Numbers written with decimal digits.
-use Rattle.std.specs.Prelude.{◌≡◌, ℕ, ◌+◌, ◌-◌, ◌*◌, Bool, true, false, cond, List, [], ◌∷◌, nat_le}
+use Rattle.std.specs.Prelude.{ℕ, ◌+◌, ◌-◌, ◌*◌, Bool, true, false, cond, List, [], ◌∷◌, nat_le}
 
 -- Whether a byte is one of the digits 0 to 9.
 abbrev pub is_digit : ℕ → Bool

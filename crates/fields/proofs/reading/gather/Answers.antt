@@ -1,4 +1,4 @@
-use Rattle.std.proofs.Common.{◌≡◌, ℕ, ◌+◌, ◌<◌, length, get_or, drop, sym, subst, arith}
+use Rattle.std.proofs.Common.{◌≡◌, ℕ, ◌+◌, ◌<◌, get_or, drop, sym, subst, arith}
 use Rattle.fields.proofs.FieldValues.{gather_none, gather_more, gather_below}
 use Rattle.fields.proofs.reading.gather.Goals as goal
 

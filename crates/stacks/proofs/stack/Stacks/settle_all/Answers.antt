@@ -1,5 +1,5 @@
 use Rattle.std.proofs.Common.{◌≡◌, ◌-◌, length, refl, ◌∙◌, arith}
-use Rattle.stacks.specs.Stacks.{lows, highs}
+use Rattle.stacks.specs.Stacks.{lows}
 use Rattle.stacks.proofs.TwoEnds.{cut_low, cut_high}
 use Rattle.stacks.proofs.stack.Stacks.settle_all.Goals as goal
 

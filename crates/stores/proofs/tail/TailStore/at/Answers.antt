@@ -1,4 +1,4 @@
-use Rattle.std.proofs.Common.{length, arith, length-drop}
+use Rattle.std.proofs.Common.{arith, length-drop}
 use Rattle.stores.specs.Tails.{start}
 use Rattle.stores.proofs.Tailing.{tail_at}
 use Rattle.stores.proofs.tail.TailStore.at.Goals as goal
