@@ -1,17 +1,16 @@
 -- What a memory stands for goes on standing, add by add, and is sealed to the minimal machine. Assumes the laws of the kind.
-use Rattle.std.proofs.Common.{◌≡◌, ℕ, zero, suc, ◌+◌, ◌-◌, ◌<◌, ◌≤◌, max, Bool, true, false, not, ltb, leb, ◌⊎◌, List, [], ◌∷◌, ◌++◌, length, Ok, Err, Result, sym, refl, ap, ◌∙◌, subst, inl, inr, arith, lt-ltb}
+use Rattle.std.proofs.Common.{◌≡◌, ℕ, zero, suc, ◌+◌, ◌-◌, ◌<◌, Bool, true, false, not, ltb, leb, ◌⊎◌, [], ◌∷◌, ◌++◌, length, Ok, Err, Result, sym, refl, ap, ◌∙◌, subst, inl, inr, arith, lt-ltb}
 use mathlib.Core.Option.{Option, none, some}
-use Rattle.stacks.specs.Stacks.{lows, highs, capacity}
+use Rattle.stacks.specs.Stacks.{capacity}
 use Rattle.outputs.specs.Kinds.{Kind, Laws}
 use Rattle.outputs.specs.Texts.{all_bytes}
 use Rattle.machines.specs.Keys.{Key, common_length}
-use Rattle.machines.specs.Machines.{Machine, count_arcs}
-use Rattle.machines.specs.Pairs.{Pairs, Proper}
+use Rattle.machines.specs.Pairs.{Pairs}
 use Rattle.machines.specs.Minimal.{minimal, key_counts}
 use Rattle.machines.specs.Memory.{growth, not_above, held_states, held_arcs, refusal}
-use Rattle.machines.specs.Runs.{put_unless, taken}
+use Rattle.machines.specs.Runs.{put_unless}
 use Rattle.machines.proofs.RunFacts.{ascending_taken, storable_taken, short_taken, few_taken, bytes_taken}
-use Rattle.construction.specs.Records.{Held, Closed, newest_key}
+use Rattle.construction.specs.Records.{Held, newest_key}
 use Rattle.construction.specs.Building.{add, held_after, sealed, sealed_states}
 use Rattle.construction.specs.Theorems.{AddStorable}
 use Rattle.construction.proofs.HeldStates.{held_exact}
@@ -19,17 +18,15 @@ use Rattle.construction.proofs.AddStorable.{joins_storable}
 use Rattle.construction.proofs.Theorems.{proper_minimal}
 use Rattle.closing.specs.Closing.{all_closed}
 use Rattle.records.specs.declared.memory.Core.{Core}
-use Rattle.records.specs.Shape.{Sound}
-use Rattle.records.specs.Holding.{held, closed_states, counts}
+use Rattle.records.specs.Holding.{held}
 use Rattle.records.specs.Registering.{Registered}
-use Rattle.records.proofs.Counting.{count_closed, count_closed_arcs}
 use Rattle.adding.specs.declared.refusal.AddRefusal.{AddRefusal}
 use Rattle.adding.specs.Refusals.{told}
 use Rattle.adding.specs.Admission.{Admits}
-use Rattle.adding.specs.Adding.{Takes, Adds, SameRooms}
+use Rattle.adding.specs.Adding.{Adds, SameRooms}
 use Rattle.adding.proofs.Telling.{HeldAs, admits_told, rising}
 use Rattle.builder.specs.Refusals.{UnlessTaken}
-use Rattle.builder.specs.Standing.{Takeable, Stands, SealedOf, machine_in}
+use Rattle.builder.specs.Standing.{Takeable, Stands, SealedOf}
 
 module _ (k : Kind) (laws : Laws k) where
   -- one pair more can be taken where it is not refused

@@ -14,7 +14,7 @@ pub fn thrown_list<V: Twin>(heap: Global, dice: &mut Dice) -> Result<Vec<Pair<V>
         keys.push(thrown_key(heap, dice, letters)?)?;
     }
     if dice.below(8) > 0 {
-        keys.sort();
+        keys.sort()?;
     }
     let mut pairs = Vec::new(heap);
     for key in keys {

@@ -1,5 +1,5 @@
 -- Closing the records beyond a depth, the newest at each step, is what the construction does at once. Assumes nothing.
-use Rattle.std.proofs.Common.{◌≡◌, ℕ, zero, suc, ◌+◌, ◌-◌, ◌<◌, ◌≤◌, List, [], ◌∷◌, ◌++◌, reverse, length, sym, refl, ap, ◌∙◌, arith}
+use Rattle.std.proofs.Common.{◌≡◌, ℕ, zero, suc, ◌+◌, ◌<◌, ◌≤◌, List, [], ◌∷◌, ◌++◌, reverse, length, sym, refl, ap, ◌∙◌, arith}
 use mathlib.Core.List.{reverse_aux-eq}
 use lib.ListN.{length-reverse}
 use Rattle.outputs.specs.Kinds.{Kind}

@@ -1,5 +1,5 @@
 -- Closing all but the record of the empty prefix, and then that one, is what the construction does to seal. Assumes nothing.
-use Rattle.std.proofs.Common.{◌≡◌, ℕ, ◌-◌, ◌<◌, List, [], ◌∷◌, reverse, length, sym, refl, ap, ◌∙◌, arith}
+use Rattle.std.proofs.Common.{◌≡◌, ℕ, ◌<◌, List, [], ◌∷◌, reverse, length, sym, refl, ap, ◌∙◌, arith}
 use Rattle.outputs.specs.Kinds.{Kind}
 use Rattle.construction.specs.Records.{Open, Closed, Held}
 use Rattle.closing.specs.Closing.{closed_beyond, all_closed, with_state}

@@ -38,9 +38,9 @@ fn texts_share_a_prefix_and_leave_a_rest(rt: HostRuntime) -> Result<(), Fail> {
         return Err(Fail::new("top"))
     };
     let shared = toe.common(&top);
-    assert!(rt; shared.as_bytes() == b"to");
-    assert!(rt; top.rest(&shared).as_bytes() == b"p");
-    assert!(rt; shared.rest(&top).as_bytes() == b"");
+    assert!(rt; shared.as_bytes() == b"to".as_slice());
+    assert!(rt; top.rest(&shared).as_bytes() == b"p".as_slice());
+    assert!(rt; shared.rest(&top).as_bytes() == b"".as_slice());
     assert!(rt; shared.join(&top.rest(&shared)).same(&top));
     Ok(())
 }

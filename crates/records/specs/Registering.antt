@@ -1,5 +1,5 @@
 -- Which slots the closed states are entered in. Assumes nothing.
-use Rattle.std.specs.Prelude.{◌≡◌, ℕ, ◌+◌, ◌*◌, ◌/◌, ◌%◌, ◌^◌, ◌<◌, List, [], ◌∷◌, length, ◌≢◌, slice_index_or}
+use Rattle.std.specs.Prelude.{ℕ, ◌+◌, ◌*◌, ◌/◌, ◌%◌, ◌^◌, ◌<◌, List, [], ◌∷◌, length, ◌≢◌, slice_index_or}
 use Rattle.std.proofs.Math.Option.{Option, none, some}
 use Rattle.machines.specs.Machines.{Arc as Edge, State as Node}
 use Rattle.register.specs.Slots.{Entered}

@@ -1,5 +1,5 @@
-use Rattle.std.proofs.Common.{◌-◌, List, ◌∷◌, map, length, sym, refl, ap, ◌∙◌, subst, arith}
-use Rattle.stacks.specs.Stacks.{lows, highs, capacity}
+use Rattle.std.proofs.Common.{List, ◌∷◌, map, length, sym, refl, ap, ◌∙◌, subst, arith}
+use Rattle.stacks.specs.Stacks.{lows, highs}
 use Rattle.construction.specs.Records.{Open}
 use Rattle.records.specs.declared.memory.Core.{Core}
 use Rattle.records.specs.Shape.{Laid, Since}

@@ -1,6 +1,6 @@
 use Rattle.std.proofs.Common.{◌≡◌, ◌+◌, ◌-◌, ◌<◌, List, [], ◌∷◌, ◌++◌, map, length, sym, refl, ap, ◌∙◌, subst, arith, rules}
 use Rattle.std.proofs.lemmas.List.{length_push}
-use Rattle.stacks.specs.Stacks.{lows, highs, capacity}
+use Rattle.stacks.specs.Stacks.{lows, highs}
 use Rattle.stacks.proofs.TwoEnds.{total}
 use Rattle.construction.specs.Records.{Open}
 use Rattle.records.specs.declared.record.State.{State}

@@ -1,10 +1,9 @@
-use Rattle.std.proofs.Common.{◌≡◌, ℕ, ◌-◌, length, sym, refl, ap, ◌∙◌, subst, arith}
+use Rattle.std.proofs.Common.{◌≡◌, ℕ, length, sym, refl, ap, ◌∙◌, subst, arith}
 use Rattle.std.proofs.lemmas.Result.{err_from_is_err_and}
 use Rattle.stacks.specs.Stacks.{capacity}
 use Rattle.machines.specs.Keys.{common_length}
 use Rattle.construction.specs.Records.{Held, newest_key}
 use Rattle.closing.specs.Closing.{closed_beyond}
-use Rattle.records.specs.Shape.{openings}
 use Rattle.records.specs.Holding.{held}
 use Rattle.records.proofs.Counting.{count_closed, count_open, count_edges}
 use Rattle.records.proofs.Moving.{registered_still}

@@ -1,5 +1,4 @@
-use Rattle.std.proofs.Common.{◌≡◌, ◌+◌, ◌-◌, ◌<◌, max, length, sym, ◌∙◌, arith, rules}
-use Rattle.stacks.specs.Stacks.{lows, highs}
+use Rattle.std.proofs.Common.{◌≡◌, ◌+◌, ◌-◌, ◌<◌, length, sym, ◌∙◌, arith, rules}
 use Rattle.stacks.proofs.TwoEnds.{total}
 use Rattle.construction.specs.Records.{newest_key}
 use Rattle.records.specs.Holding.{held}

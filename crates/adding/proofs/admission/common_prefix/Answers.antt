@@ -1,4 +1,4 @@
-use Rattle.std.proofs.Common.{◌≡◌, ◌+◌, length, drop, sym, ◌∙◌, arith}
+use Rattle.std.proofs.Common.{◌≡◌, ◌+◌, drop, sym, ◌∙◌, arith}
 use Rattle.machines.specs.Keys.{common_length}
 use Rattle.construction.specs.Records.{newest_key}
 use Rattle.records.specs.Holding.{held}

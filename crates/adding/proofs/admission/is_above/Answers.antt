@@ -1,4 +1,4 @@
-use Rattle.std.proofs.Common.{ℕ, ◌-◌, ◌<◌, ltb, length, get_or, sym, ap, ◌∙◌, arith}
+use Rattle.std.proofs.Common.{ℕ, ◌<◌, ltb, length, get_or, sym, ap, ◌∙◌, arith}
 use Rattle.construction.specs.Records.{newest_key}
 use Rattle.records.specs.Holding.{held}
 use Rattle.records.proofs.Counting.{count_open}

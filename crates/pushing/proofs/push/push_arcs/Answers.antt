@@ -1,6 +1,6 @@
 use Rattle.std.proofs.Common.{◌≡◌, ℕ, ◌+◌, ◌<◌, List, length, get_or, set, sym, refl, ap, ◌∙◌, subst, arith}
 use Rattle.std.proofs.lemmas.List.{map-set, length-map, length-set, get_or-map}
-use Rattle.stacks.specs.Stacks.{lows, highs, capacity}
+use Rattle.stacks.specs.Stacks.{lows, highs}
 use Rattle.outputs.specs.Joins.{join_or_empty}
 use Rattle.machines.specs.Machines.{Arc as Edge}
 use Rattle.records.specs.Shape.{Laid}
