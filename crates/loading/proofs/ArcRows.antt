@@ -1,9 +1,9 @@
 -- The loop over a record's arcs beside their definition. Assumes nothing.
-use Rattle.std.proofs.Common.{◌≡◌, ℕ, zero, suc, ◌+◌, ◌-◌, ◌<◌, ◌≤◌, min, max, Bool, List, [], ◌∷◌, ◌++◌, length, set, Ok, Err, sym, refl, ap, ◌∙◌, subst, ap₂, arith, length-append}
+use Rattle.std.proofs.Common.{◌≡◌, ℕ, suc, ◌+◌, ◌-◌, ◌<◌, min, max, Bool, List, [], ◌∷◌, ◌++◌, length, set, Ok, Err, sym, refl, ap, ◌∙◌, ap₂, arith, length-append}
 use Rattle.outputs.specs.Kinds.{Kind}
 use Rattle.machines.specs.Lists.{Each}
 use Rattle.machines.specs.Machines.{Arc}
-use Rattle.images.specs.Steps.{Step, reads, refuses}
+use Rattle.images.specs.Steps.{Step, refuses}
 use Rattle.images.specs.Loads.{arc, arcs, keys_at, sum_over}
 use Rattle.loading.specs.declared.refusal.LoadRefusal.{LoadRefusal}
 use Rattle.loading.specs.declared.arcs.Arc as Code

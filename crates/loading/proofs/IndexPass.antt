@@ -1,7 +1,7 @@
 -- The loop over the index beside its definition. Assumes nothing.
-use Rattle.std.proofs.Common.{◌≡◌, ℕ, zero, suc, ◌+◌, ◌-◌, ◌<◌, Bool, List, Ok, Err, sym, refl, ap, ◌∙◌, arith}
+use Rattle.std.proofs.Common.{◌≡◌, ℕ, suc, ◌+◌, ◌-◌, ◌<◌, Bool, List, Ok, Err, ap, ◌∙◌, arith}
 use Rattle.outputs.specs.Kinds.{Kind}
-use Rattle.images.specs.Steps.{Step, reads, refuses, field}
+use Rattle.images.specs.Steps.{reads, refuses, field}
 use Rattle.images.specs.Loads.{entries}
 use Rattle.loading.specs.declared.refusal.LoadRefusal.{LoadRefusal}
 use Rattle.loading.specs.Refusals.{reported}

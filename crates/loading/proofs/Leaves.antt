@@ -1,19 +1,17 @@
 -- A field and an output of a store, as steps of load. Assumes nothing.
-use Rattle.std.proofs.Common.{◌≡◌, ℕ, ◌+◌, ◌/◌, ◌^◌, ◌<◌, ◌≤◌, max, Bool, true, false, List, ◌++◌, length, take, drop, Ok, Err, Result, sym, refl, ap, ◌∙◌, subst, arith, length-append, length-drop, le-leb}
+use Rattle.std.proofs.Common.{◌≡◌, ℕ, ◌+◌, ◌/◌, ◌^◌, ◌<◌, ◌≤◌, max, Bool, List, ◌++◌, length, drop, Ok, Err, sym, refl, ap, ◌∙◌, subst, arith, length-append, length-drop, le-leb}
 use mathlib.Core.Option.{some}
 use borrow.Author.Tests.{lt-leb}
-use Rattle.outputs.specs.Bits.{spread, value}
+use Rattle.outputs.specs.Bits.{spread}
 use Rattle.outputs.specs.Fields.{Field, field_width}
 use Rattle.outputs.specs.Kinds.{Kind, Laws, Reading, got, begun, no_code}
 use Rattle.outputs.specs.Joins.{Read}
 use Rattle.outputs.specs.declared.source.Unread.{Unread}
-use Rattle.outputs.specs.declared.source.Unread.TheVariants.{Cut as cut_by, NoCode as none_read}
 use Rattle.outputs.specs.TextLaws.{length_spread}
 use Rattle.stores.specs.declared.Refusal as Stores
 use Rattle.fields.specs.declared.reading.Cut as Fields
 use Rattle.fields.specs.Reads.{missing, cut_at}
 use Rattle.images.specs.Steps.{Refusal, cut, field, field_if, output, output_if}
-use Rattle.loading.specs.declared.refusal.LoadRefusal.{LoadRefusal}
 use Rattle.loading.specs.declared.refusal.LoadRefusal.TheVariants.{Cut}
 use Rattle.loading.specs.Refusals.{reported, unread_at}
 use Rattle.loading.specs.Answers.{Answers}

@@ -1,8 +1,8 @@
 -- The loop over the records beside their definition. Assumes nothing.
-use Rattle.std.proofs.Common.{◌≡◌, ℕ, zero, suc, ◌+◌, ◌-◌, ◌<◌, Bool, List, [], ◌∷◌, ◌++◌, length, Ok, Err, sym, refl, ap, ◌∙◌, subst, ap₂, arith, length-append}
+use Rattle.std.proofs.Common.{◌≡◌, ℕ, suc, ◌+◌, ◌-◌, ◌<◌, Bool, List, [], ◌∷◌, ◌++◌, length, Ok, Err, sym, refl, ap, ◌∙◌, subst, ap₂, arith, length-append}
 use Rattle.outputs.specs.Kinds.{Kind}
 use Rattle.machines.specs.Machines.{State, count_arcs}
-use Rattle.images.specs.Steps.{Step, reads, refuses}
+use Rattle.images.specs.Steps.{Step, refuses}
 use Rattle.images.specs.Loads.{record_at, records}
 use Rattle.loading.specs.declared.refusal.LoadRefusal.{LoadRefusal}
 use Rattle.loading.specs.Refusals.{reported}

@@ -1,9 +1,9 @@
 -- What load keeps of a whole image. Assumes nothing.
-use Rattle.std.proofs.Common.{◌≡◌, ℕ, ◌-◌, ◌<◌, List, IsErrAnd, Ok, Err, Result, sym, refl, ap, ◌∙◌, arith}
+use Rattle.std.proofs.Common.{◌≡◌, ℕ, ◌-◌, ◌<◌, List, IsErrAnd, Ok, Err, Result, sym, ap, ◌∙◌, arith}
 use Rattle.outputs.specs.Bits.{spread}
 use Rattle.outputs.specs.Kinds.{Kind}
 use Rattle.machines.specs.Machines.{Machine}
-use Rattle.images.specs.Steps.{Step, reads, refuses, Refusal}
+use Rattle.images.specs.Steps.{Step, reads, refuses}
 use Rattle.images.specs.Loads.{Head, head, whole, load}
 use Rattle.loading.specs.declared.head.Head as Code
 use Rattle.loading.specs.declared.held.Loaded.{Loaded}
@@ -12,7 +12,7 @@ use Rattle.loading.specs.Refusals.{reported}
 use Rattle.loading.specs.Answers.{Answers}
 use Rattle.loading.specs.Heads.{head_of}
 use Rattle.loading.specs.Wholes.{WholeRead}
-use Rattle.loading.specs.Loading.{Holds, Takes, Loads}
+use Rattle.loading.specs.Loading.{Takes, Loads}
 use Rattle.loading.proofs.Walking.{has_read, has_refused}
 
 module _ {O S : Type 0} (k : Kind) (meaning : O → k.Ideal) (bytes : S → List ℕ) (working : ℕ) (store : S) where

@@ -1,5 +1,5 @@
 -- What code answered, as an equation of the step, and back. Assumes nothing.
-use Rattle.std.proofs.Common.{◌≡◌, ℕ, IsErrAnd, IfOk, Ok, Err, Result, sym, refl, ap, ◌∙◌, subst}
+use Rattle.std.proofs.Common.{◌≡◌, ℕ, IsErrAnd, IfOk, Ok, Err, Result, sym, refl, ap, subst}
 use Rattle.images.specs.Steps.{Step, reads, refuses, Refusal, Reader, ◌>>=◌}
 use Rattle.loading.specs.declared.refusal.LoadRefusal.{LoadRefusal}
 use Rattle.loading.specs.Refusals.{reported}

@@ -2,7 +2,7 @@
 use Rattle.std.specs.Prelude.{ℕ, zero, suc, ◌-◌, Bool, not, List, ◌==◌, nat_lt}
 use Rattle.outputs.specs.Bits.{filling}
 use Rattle.outputs.specs.Kinds.{Kind}
-use Rattle.images.specs.Steps.{Step, Reader, ◌>>=◌, ◌>>◌, gives, place, refuse, field}
+use Rattle.images.specs.Steps.{Reader, ◌>>=◌, ◌>>◌, gives, place, refuse, field}
 use Rattle.images.specs.Loads.{Head, record_place, keys_at}
 use Rattle.loading.specs.Working.{length_in, marked_in}
 

@@ -1,5 +1,4 @@
 -- The code's head as the head of an image. Assumes nothing.
-use Rattle.std.specs.Prelude.{ℕ}
 use Rattle.images.specs.Loads.{Head}
 use Rattle.loading.specs.declared.head.Head as Code
 

@@ -1,12 +1,12 @@
 -- A string that is answered from a state on is no longer than the longest string along arcs. Assumes that arcs lead to lower states.
-use Rattle.std.proofs.Common.{◌≡◌, ℕ, zero, suc, ◌+◌, ◌<◌, ◌≤◌, max, ◌⊎◌, List, [], ◌∷◌, ◌++◌, length, get_or, sym, refl, ap, ◌∙◌, inl, inr, arith, length-append}
+use Rattle.std.proofs.Common.{◌≡◌, ℕ, zero, suc, ◌+◌, ◌<◌, ◌≤◌, List, [], ◌∷◌, ◌++◌, length, get_or, sym, refl, ap, ◌∙◌, inl, inr, arith, length-append}
 use mathlib.Core.Option.{Option, none, some}
 use Rattle.std.proofs.lemmas.List.{get_or_append_left, get_or-append-add}
 use Rattle.outputs.specs.Kinds.{Kind}
 use Rattle.machines.specs.Lists.{at, Each}
 use Rattle.machines.specs.Keys.{Key}
 use Rattle.machines.specs.Lengths.{longest_on, longest_each, longest_from}
-use Rattle.machines.specs.Machines.{Arc, State, arc_on, arc_at, end_at, join_some, answer_from}
+use Rattle.machines.specs.Machines.{Arc, State, arc_on, arc_at, join_some, answer_from}
 use Rattle.machines.proofs.Lists.{In}
 use Rattle.searching.proofs.Strings.{arc_on_in}
 

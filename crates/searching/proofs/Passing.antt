@@ -1,5 +1,5 @@
 -- The arcs of a state that a search has passed, and what is found there. Assumes the laws of a kind.
-use Rattle.std.proofs.Common.{◌≡◌, ℕ, zero, suc, ◌+◌, ◌<◌, ◌≤◌, Bool, List, [], ◌∷◌, ◌++◌, length, Some, None, Option as Maybe, sym, refl, ap, ◌∙◌, subst, append_assoc, append-nil, arith, length-append}
+use Rattle.std.proofs.Common.{◌≡◌, ℕ, ◌+◌, ◌<◌, Bool, List, [], ◌∷◌, ◌++◌, length, Some, None, sym, refl, ap, ◌∙◌, subst, append_assoc, append-nil, arith, length-append}
 use mathlib.Core.Option.{Option, none, some}
 use Rattle.outputs.specs.Kinds.{Kind, Laws}
 use Rattle.machines.specs.Lists.{at, Each}
@@ -11,7 +11,7 @@ use Rattle.lookups.specs.declared.rows.Row.{Row}
 use Rattle.lookups.specs.declared.states.Opened.{Opened}
 use Rattle.lookups.specs.Lookups.{OpenedAs, Opens, SameArc, RowOf, Next}
 use Rattle.searching.specs.Searches.{Left, Nowhere}
-use Rattle.searching.proofs.Strings.{Fruitless, arc_on_rising, no_prefix_fruitless, left_fruitless, along, nowhere_here}
+use Rattle.searching.proofs.Strings.{Fruitless, arc_on_rising, no_prefix_fruitless, left_fruitless, along}
 
 -- a state that was opened is there, and one that was not is not
 pub is_opened : (k : Kind) (all : List Bool) (o : Option (State k.Ideal)) (opened : Opened) → Opens k all o (Some opened) → (s : State k.Ideal) × (o ≡ some s) × OpenedAs k all opened s

@@ -1,5 +1,5 @@
 -- An output is a prefix of another exactly if it is what both have in common. Assumes the laws of a kind.
-use Rattle.std.proofs.Common.{◌≡◌, sym, subst}
+use Rattle.std.proofs.Common.{◌≡◌, subst}
 use Rattle.outputs.specs.Kinds.{Kind, Laws, PrefixOf}
 use Rattle.machines.proofs.PrefixLaws.{prefix_refl, prefix_antisym}
 

@@ -10,7 +10,7 @@ use Rattle.lookups.specs.declared.rows.Arc as Code
 use Rattle.lookups.specs.declared.rows.Row.{Row}
 use Rattle.lookups.specs.declared.states.Opened.{Opened}
 use Rattle.lookups.specs.Lookups.{OpenedAs, Opens, RowOf, Next}
-use Rattle.searching.specs.Searches.{Left, Nowhere, written, Sought}
+use Rattle.searching.specs.Searches.{Left, written, Sought}
 use Rattle.searching.proofs.Strings.{ends_here, nowhere_missing, nowhere_deep, nowhere_here}
 use Rattle.searching.proofs.Passing.{is_opened, not_opened, Passed, passed_none, passed_all, not_none, passed_other, passed_behind, found_behind}
 use Rattle.searching.proofs.Writing.{written_none, written_more}

@@ -1,9 +1,8 @@
 -- A string that is found from the start on is a key, and every key is short enough to be found. Assumes the laws of a kind.
-use Rattle.std.proofs.Common.{◌≡◌, ℕ, ◌+◌, ◌≤◌, List, ◌++◌, length, drop, Some, None, Option, sym, refl, ap, ◌∙◌, subst, arith}
+use Rattle.std.proofs.Common.{◌≡◌, ℕ, ◌+◌, List, ◌++◌, length, drop, Some, None, Option, sym, refl, ap, ◌∙◌, subst, arith}
 use mathlib.Core.Option as Maybe
 use Rattle.outputs.specs.Kinds.{Kind, Laws, PrefixOf}
-use Rattle.machines.specs.Keys.{Key}
-use Rattle.machines.specs.Machines.{Machine, join_some, answer_from, answer}
+use Rattle.machines.specs.Machines.{Machine, join_some, answer_from}
 use Rattle.machines.specs.Pairs.{Pairs, Proper}
 use Rattle.machines.specs.Minimal.{minimal}
 use Rattle.machines.proofs.Theorems.{right_readings}

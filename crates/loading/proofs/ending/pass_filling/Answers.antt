@@ -1,4 +1,3 @@
-use Rattle.std.proofs.Common.{arith}
 use Rattle.outputs.specs.Bits.{spread}
 use Rattle.loading.proofs.Walking.{is_passed}
 use Rattle.loading.proofs.MarkPass.{filled_none}

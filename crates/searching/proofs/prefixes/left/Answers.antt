@@ -1,4 +1,4 @@
-use Rattle.std.proofs.Common.{◌≡◌, ap, ◌∙◌}
+use Rattle.std.proofs.Common.{ap, ◌∙◌}
 use Rattle.machines.proofs.PrefixLaws.{rest_joined}
 use Rattle.searching.proofs.Prefixed.{prefix_if_common, common_if_prefix}
 use Rattle.searching.proofs.prefixes.left.Goals as goal

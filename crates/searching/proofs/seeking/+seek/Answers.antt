@@ -1,5 +1,4 @@
-use Rattle.std.proofs.Common.{◌≡◌, ℕ, ◌<◌, Bool, List, length, sym, refl, ap, ◌∙◌, arith}
-use Rattle.machines.specs.Machines.{Machine}
+use Rattle.std.proofs.Common.{◌<◌, length, refl, ◌∙◌, arith}
 use Rattle.loading.specs.Loading.{Holds}
 use Rattle.lookups.specs.Lookups.{bits_of}
 use Rattle.lookups.proofs.HeldStates.{held_stored}
