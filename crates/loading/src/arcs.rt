@@ -1,7 +1,7 @@
 //! The arcs of a record. A working byte holds the length of a state's longest string, 100 at most, and 128 more once an arc leads to it.
 ghost use Rattle.std.specs.Prelude.{◌≡◌, ℕ, suc, ◌+◌, ◌*◌, ◌%◌, ◌^◌, ◌<◌, ◌≤◌, min, [], length, IfOk, slice_index, slice_set};
 ghost use Rattle.outputs.specs.Bits.{spread};
-ghost use Rattle.images.specs.Loads.{arc as arc-step, arcs as arcs-step};
+ghost use Rattle.images.specs.Loads.{arc as arc_step, arcs as arcs_step};
 ghost use Rattle.loading.specs.Answers.{Answers};
 ghost use Rattle.loading.specs.Index.{There};
 ghost use Rattle.loading.specs.Working.{RowRead};
@@ -25,7 +25,7 @@ fn read_arc<O: Output, S: Store>(
     state: usize,
     least: u32,
 ) -> Result<(Arc, usize), LoadRefusal>
-    ensures answers { Answers (λ a x. (a.byte ≡ x.byte) × (a.target ≡ x.target)) (arc-step O.Output.kind (spread (S.Store.bytes store.now)) state least place) result }
+    ensures answers { Answers (λ a x. (a.byte ≡ x.byte) × (a.target ≡ x.target)) (arc_step O.Output.kind (spread (S.Store.bytes store.now)) state least place) result }
     ensures within { IfOk result (λ v. (v.0.byte < 256) × (v.0.target < state) × (v.1 < 2 ^ 32) × (v.1 ≤ length (spread (S.Store.bytes store.now)))) }
 {
     let (byte, target_place) = read_field(store, place, 8)?;
@@ -64,7 +64,7 @@ pub fn read_arcs<O: Output, S: Store>(
     requires within { (index < 2 ^ 32) × ((state < 2 ^ 16) × ((state < length working.old) × (count ≤ 256))) }
     requires inside { (place < 2 ^ 32) × (place ≤ length (spread (S.Store.bytes store.now))) }
     requires there { (t : ℕ) → t < state → There O.Output.kind (spread (S.Store.bytes store.now)) index t }
-    ensures answers { Answers (RowRead O.Output.kind (spread (S.Store.bytes store.now)) index state count working.old working.new) (arcs-step O.Output.kind (spread (S.Store.bytes store.now)) state count 0 [] place) result }
+    ensures answers { Answers (RowRead O.Output.kind (spread (S.Store.bytes store.now)) index state count working.old working.new) (arcs_step O.Output.kind (spread (S.Store.bytes store.now)) state count 0 [] place) result }
     ensures within { IfOk result (λ v. (v.0 ≤ 1048575 * count) × (v.1 < 2 ^ 32) × (v.1 ≤ length (spread (S.Store.bytes store.now)))) }
 {
     let mut here = place;

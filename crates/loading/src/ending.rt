@@ -2,7 +2,7 @@
 ghost use Rattle.std.specs.Prelude.{◌≡◌, ℕ, ◌+◌, ◌^◌, ◌<◌, ◌≤◌, length, IfOk};
 ghost use Rattle.outputs.specs.Bits.{spread};
 ghost use Rattle.loading.specs.Answers.{Passes};
-ghost use Rattle.loading.specs.Ends.{all_marked, filled, ending as ending-step};
+ghost use Rattle.loading.specs.Ends.{all_marked, filled, ending as ending_step};
 ghost use Rattle.loading.specs.Heads.{head_of};
 ghost use Rattle.loading.specs.Index.{There};
 
@@ -60,7 +60,7 @@ pub fn pass_ending<O: Output, S: Store>(
     requires inside { (place < 2 ^ 32) × (place ≤ length (spread (S.Store.bytes store.now))) }
     requires within { (head.now.index < 2 ^ 32) × ((0 < head.now.states) × ((head.now.states < 2 ^ 16) × (head.now.states ≤ length working.now))) }
     requires there { (t : ℕ) → t < head.now.states → There O.Output.kind (spread (S.Store.bytes store.now)) head.now.index t }
-    ensures { Passes (ending-step O.Output.kind (spread (S.Store.bytes store.now)) (head_of O.Output.meaning head.now) arcs working.now place) result }
+    ensures { Passes (ending_step O.Output.kind (spread (S.Store.bytes store.now)) (head_of O.Output.meaning head.now) arcs working.now place) result }
 {
     let last = head.states - 1;
     if head.keys != keys_at::<O, S>(store, head.index, last) {

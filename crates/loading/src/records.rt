@@ -1,7 +1,7 @@
 //! The records of an image, one for each state.
 ghost use Rattle.std.specs.Prelude.{◌≡◌, ℕ, ◌+◌, ◌*◌, ◌^◌, ◌<◌, ◌≤◌, [], length, IfOk};
 ghost use Rattle.outputs.specs.Bits.{spread};
-ghost use Rattle.images.specs.Loads.{entry_place, misshapen, end_output as End-step, record_at, records as records-step};
+ghost use Rattle.images.specs.Loads.{entry_place, misshapen, end_output as EndStep, record_at, records as records_step};
 ghost use Rattle.loading.specs.Answers.{Answers, Passes};
 ghost use Rattle.loading.specs.Index.{There};
 ghost use Rattle.loading.specs.Working.{RecordRead, RecordsRead};
@@ -15,7 +15,7 @@ use stores::Store;
 /// Passes the end output at a place if the flag is set, and gives the place behind it.
 fn pass_end<O: Output, S: Store>(store: &S, place: usize, flag: u32) -> Result<usize, LoadRefusal>
     requires { (place < 2 ^ 32) × (place ≤ length (spread (S.Store.bytes store.now))) }
-    ensures passes { Passes (End-step O.Output.kind (spread (S.Store.bytes store.now)) flag place) result }
+    ensures passes { Passes (EndStep O.Output.kind (spread (S.Store.bytes store.now)) flag place) result }
     ensures within { IfOk result (λ p. (p < 2 ^ 32) × (p ≤ length (spread (S.Store.bytes store.now)))) }
 {
     if flag == 1 {
@@ -72,7 +72,7 @@ pub fn read_records<O: Output, S: Store>(
 ) -> Result<(u32, usize), LoadRefusal>
     requires inside { (place < 2 ^ 32) × (place ≤ length (spread (S.Store.bytes store.now))) }
     requires within { (index < 2 ^ 32) × ((states < 2 ^ 16) × ((states ≤ length working.old) × (entry_place O.Output.kind (spread (S.Store.bytes store.now)) index states ≤ length (spread (S.Store.bytes store.now))))) }
-    ensures answers { Answers (RecordsRead states working.new) (records-step O.Output.kind (spread (S.Store.bytes store.now)) index 0 states [] place) result }
+    ensures answers { Answers (RecordsRead states working.new) (records_step O.Output.kind (spread (S.Store.bytes store.now)) index 0 states [] place) result }
     ensures within { IfOk result (λ v. (v.1 < 2 ^ 32) × (v.1 ≤ length (spread (S.Store.bytes store.now))) × ((t : ℕ) → t < states → There O.Output.kind (spread (S.Store.bytes store.now)) index t)) }
 {
     let mut here = place;

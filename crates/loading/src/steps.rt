@@ -1,7 +1,7 @@
 //! The smallest steps of load: a field, an output, and what stands where the index says.
 ghost use Rattle.std.specs.Prelude.{◌≡◌, ◌+◌, ◌^◌, ◌<◌, ◌≤◌, length, take, drop, IfOk};
 ghost use Rattle.outputs.specs.Bits.{spread, value};
-ghost use Rattle.images.specs.Steps.{field as field_step, output as output-step};
+ghost use Rattle.images.specs.Steps.{field as field_step, output as output_step};
 ghost use Rattle.images.specs.Loads.{entry_place, record_place, keys_at};
 ghost use Rattle.loading.specs.Index.{There};
 ghost use Rattle.loading.specs.Refusals.{unread_at};
@@ -41,7 +41,7 @@ fn unread(place: usize, unread: Unread<Refusal>) -> LoadRefusal
 /// The output whose code stands at a place, and the place behind it.
 pub fn read_output<O: Output, S: Store>(store: &S, place: usize) -> Result<(O, usize), LoadRefusal>
     requires { place ≤ length (spread (S.Store.bytes store.now)) }
-    ensures answers { Answers (λ v x. O.Output.meaning v ≡ x) (output-step (spread (S.Store.bytes store.now)) O.Output.kind place) result }
+    ensures answers { Answers (λ v x. O.Output.meaning v ≡ x) (output_step (spread (S.Store.bytes store.now)) O.Output.kind place) result }
     ensures within { IfOk result (λ v. (v.1 ≤ length (spread (S.Store.bytes store.now))) × (v.1 < 2 ^ 32)) }
 {
     let bits = StoreBits::new(store);

@@ -1,7 +1,7 @@
 //! A whole image, step by step.
 ghost use Rattle.std.specs.Prelude.{◌^◌, ◌<◌, length, IfOk};
 ghost use Rattle.outputs.specs.Bits.{spread};
-ghost use Rattle.images.specs.Loads.{whole as whole-step};
+ghost use Rattle.images.specs.Loads.{whole as whole_step};
 ghost use Rattle.loading.specs.Answers.{Answers};
 ghost use Rattle.loading.specs.Wholes.{WholeRead};
 
@@ -17,7 +17,7 @@ pub fn read_whole<O: Output, S: Store>(
     store: &S,
     working: &mut [u8],
 ) -> Result<(Head<O>, usize), LoadRefusal>
-    ensures answers { Answers (WholeRead O.Output.kind O.Output.meaning (spread (S.Store.bytes store.now)) (length working.old)) (whole-step O.Output.kind (spread (S.Store.bytes store.now)) (length working.old) 0) result }
+    ensures answers { Answers (WholeRead O.Output.kind O.Output.meaning (spread (S.Store.bytes store.now)) (length working.old)) (whole_step O.Output.kind (spread (S.Store.bytes store.now)) (length working.old) 0) result }
     ensures within { IfOk result (λ v. (0 < v.0.states) × (v.0.states < 2 ^ 16) × (v.0.index < 2 ^ 32)) }
 {
     let (head, index) = read_head::<O, S>(store, 0, working.len())?;

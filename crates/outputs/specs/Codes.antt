@@ -25,7 +25,7 @@ parted (x ∷ b) m (y ∷ c) d e =
 module _ {A B D : Type 0} (make : A → B → D)
     {goodA : A → Type 0} {codeA : A → List Bool} {read_a : List Bool → Reading A} (ca : Coded goodA codeA read_a)
     {goodB : A → B → Type 0} {codeB : B → List Bool} {readB : A → List Bool → Reading B} (cb : (a : A) → Coded (goodB a) codeB (readB a))
-    (some-b : (a : A) → goodA a → (b : B) × goodB a b)
+    (some_b : (a : A) → goodA a → (b : B) × goodB a b)
     (goodD : D → Type 0) (codeD : D → List Bool)
     (made : (a : A) (b : B) → goodA a → goodB a b → goodD (make a b) × (codeD (make a b) ≡ codeA a ++ codeB b))
     (parts : (d : D) → goodD d → (a : A) × (b : B) × goodA a × goodB a b × (make a b ≡ d)) where
@@ -81,7 +81,7 @@ module _ {A B D : Type 0} (make : A → B → D)
       begun_1 bs (got a m) ea e = begun_2 bs a m ea (readB a m) refl e
       begun_1 bs begun ea e =
           let pa = ca.if_begun bs ea in
-          let b = some-b pa.0 pa.1 in
+          let b = some_b pa.0 pa.1 in
           let k = made pa.0 b.0 pa.1 b.1 in
           (make pa.0 b.0, k.0, (pa.2.0 ++ codeB b.0, sym (append_assoc bs pa.2.0 (codeB b.0)) ∙ ap (λ l. l ++ codeB b.0) pa.2.1 ∙ sym k.1))
       begun_1 bs no_code ea e = let z : ◌≡◌ {A = ℕ} 0 1 = cc in absurd (omega arith)

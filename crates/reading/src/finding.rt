@@ -1,7 +1,7 @@
 //! The output of a key.
 ghost use Rattle.std.specs.Prelude.{◌≡◌};
 ghost use Rattle.machines.specs.Machines.{Machine};
-ghost use Rattle.machines.specs.Asked.{end_tell, find as find-of};
+ghost use Rattle.machines.specs.Asked.{end_tell, find as find_of};
 ghost use Rattle.loading.specs.Loading.{Holds};
 ghost use Rattle.reading.specs.Told.{told_of};
 
@@ -34,7 +34,7 @@ fn find_key<O: Output, S: Store>(
     loaded: &Loaded<O, S>,
     key: &[u8],
 ) -> Result<Option<O>, ReadRefusal>
-    ensures { (m : Machine O.Output.kind.Ideal) → Holds O.Output.kind O.Output.meaning S.Store.bytes loaded.now m → told_of O.Output.meaning result ≡ find-of O.Output.kind m key.now }
+    ensures { (m : Machine O.Output.kind.Ideal) → Holds O.Output.kind O.Output.meaning S.Store.bytes loaded.now m → told_of O.Output.meaning result ≡ find_of O.Output.kind m key.now }
 {
     match walk(loaded, key)? {
         None => Ok(None),
@@ -49,7 +49,7 @@ pub fn find<O: Output, S: Store>(
     loaded: &Loaded<O, S>,
     key: &[u8],
 ) -> Result<Option<O>, ReadRefusal>
-    ensures { (m : Machine O.Output.kind.Ideal) → Holds O.Output.kind O.Output.meaning S.Store.bytes loaded.now m → told_of O.Output.meaning result ≡ find-of O.Output.kind m key.now }
+    ensures { (m : Machine O.Output.kind.Ideal) → Holds O.Output.kind O.Output.meaning S.Store.bytes loaded.now m → told_of O.Output.meaning result ≡ find_of O.Output.kind m key.now }
 {
     find_key(loaded, key)
 }

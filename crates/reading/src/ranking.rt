@@ -7,7 +7,7 @@ ghost use Rattle.machines.specs.Counts.{counts_of};
 ghost use Rattle.machines.specs.Numbering.{Rising};
 ghost use Rattle.machines.specs.Pairs.{Pairs, Proper};
 ghost use Rattle.machines.specs.Minimal.{minimal};
-ghost use Rattle.machines.specs.Asked.{keys_below, arcs_at, rank as rank-in, rank_of};
+ghost use Rattle.machines.specs.Asked.{keys_below, arcs_at, rank as rank_in, rank_of};
 ghost use Rattle.loading.specs.Loading.{Holds};
 ghost use Rattle.lookups.specs.Lookups.{bits_of, RowOf};
 ghost use Rattle.reading.specs.Told.{told_rank, Lowered};
@@ -70,7 +70,7 @@ fn ends<O: Output, S: Store>(loaded: &Loaded<O, S>, state: usize) -> bool
 }
 
 fn rank_key<O: Output, S: Store>(loaded: &Loaded<O, S>, key: &[u8]) -> Option<u32>
-    ensures { (m : Machine O.Output.kind.Ideal) → Holds O.Output.kind O.Output.meaning S.Store.bytes loaded.now m → told_rank result ≡ rank-in m (counts_of m.states) key.now }
+    ensures { (m : Machine O.Output.kind.Ideal) → Holds O.Output.kind O.Output.meaning S.Store.bytes loaded.now m → told_rank result ≡ rank_in m (counts_of m.states) key.now }
 {
     let mut state = loaded.start();
     let mut keys = 0u32;
@@ -87,14 +87,14 @@ fn rank_key<O: Output, S: Store>(loaded: &Loaded<O, S>, key: &[u8]) -> Option<u3
 
 /// How many keys are lower than a key, and `None` for a string that is no key.
 pub fn rank<O: Output, S: Store>(loaded: &Loaded<O, S>, key: &[u8]) -> Option<u32>
-    ensures { (m : Machine O.Output.kind.Ideal) → Holds O.Output.kind O.Output.meaning S.Store.bytes loaded.now m → told_rank result ≡ rank-in m (counts_of m.states) key.now }
+    ensures { (m : Machine O.Output.kind.Ideal) → Holds O.Output.kind O.Output.meaning S.Store.bytes loaded.now m → told_rank result ≡ rank_in m (counts_of m.states) key.now }
 {
     rank_key(loaded, key)
 }
 
 /// Of the minimal machine of some pairs, rank is the number of pairs with a lower key.
 pub fn ranks_stand<O: Output>() -> u8
-    ensures { (P : Pairs O.Output.kind.Ideal) → Proper O.Output.kind P → (w : Key) → rank-in (minimal O.Output.kind P) (counts_of (minimal O.Output.kind P).states) w ≡ rank_of P w }
+    ensures { (P : Pairs O.Output.kind.Ideal) → Proper O.Output.kind P → (w : Key) → rank_in (minimal O.Output.kind P) (counts_of (minimal O.Output.kind P).states) w ≡ rank_of P w }
 {
     0
 }

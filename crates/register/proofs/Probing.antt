@@ -2,7 +2,7 @@
 use Rattle.std.proofs.Common.{◌≡◌, ℕ, zero, suc, ◌-◌, ◌<◌, ◌≤◌, List, [], ◌∷◌, length, get_or, sym, refl, ap, subst, ⊎_elim, arith}
 use Rattle.std.proofs.lemmas.Bool.{cases_lt, cases_order}
 use Rattle.register.specs.Slots.{EachBefore, Taken, used, Entered}
-use Rattle.register.specs.Answers.{Among, Other, First-free, Missing}
+use Rattle.register.specs.Answers.{Among, Other, FirstFree, Missing}
 
 -- of two slots, one is probed first
 module _ (h l a i : ℕ) (P Q : ℕ → Type 0) (X : Type 0) (aw : a < l) (iw : i < l) (ca : EachBefore h l a P) (ci : EachBefore h l i Q) (same : a ≡ i → X) (first : Q a → X) (later : P i → X) where
@@ -29,11 +29,11 @@ module _ (n : ℕ) (E : ℕ → Type 0) (ts : List ℕ) (h i : ℕ) (within : i 
   }
 
 -- the free slot lies behind home
-pub missing_behind : (n : ℕ) (E : ℕ → Type 0) (ts : List ℕ) (h i : ℕ) → First-free (Among n E) ts h (length ts) i → Missing n E ts h i
+pub missing_behind : (n : ℕ) (E : ℕ → Type 0) (ts : List ℕ) (h i : ℕ) → FirstFree (Among n E) ts h (length ts) i → Missing n E ts h i
 missing_behind n E ts h i f = missing n E ts h i f.high f.free (record { up = λ j a b c. f.passed j b c; to_end = λ j a b c. absurd (omega (arith, f.low)); from_start = λ j a b. absurd (omega (arith, f.low)) })
 
 -- the free slot lies before home
-pub missing_before : (n : ℕ) (E : ℕ → Type 0) (ts : List ℕ) (h i : ℕ) → h < length ts → ((j : ℕ) → h ≤ j → j < length ts → Other (Among n E) ts j) → First-free (Among n E) ts 0 h i → Missing n E ts h i
+pub missing_before : (n : ℕ) (E : ℕ → Type 0) (ts : List ℕ) (h i : ℕ) → h < length ts → ((j : ℕ) → h ≤ j → j < length ts → Other (Among n E) ts j) → FirstFree (Among n E) ts 0 h i → Missing n E ts h i
 missing_before n E ts h i hw all f = missing n E ts h i (omega (arith, f.high)) f.free (record { up = λ j a b c. absurd (omega (arith, f.high)); to_end = λ j a b c. all j b c; from_start = λ j a b. f.passed j (omega arith) b })
 
 -- where no slot is free, all are used

@@ -14,7 +14,7 @@ pub record Other (E : ℕ → Type 0) (slots : List ℕ) (j : ℕ) : Type 0 wher
   pub other : E (slice_index slots j - 1) → ⊥
 
 -- slot i is the first free one from slot a up to slot b, and E holds of no state before it
-pub record First-free (E : ℕ → Type 0) (slots : List ℕ) (a b i : ℕ) : Type 0 where
+pub record FirstFree (E : ℕ → Type 0) (slots : List ℕ) (a b i : ℕ) : Type 0 where
   pub low : a ≤ i
   pub high : i < b
   pub free : slice_index_or slots i 0 ≡ 0
@@ -23,7 +23,7 @@ pub record First-free (E : ℕ → Type 0) (slots : List ℕ) (a b i : ℕ) : Ty
 -- what a scan of the slots from a up to b tells
 abbrev pub Scanned : (ℕ → Type 0) → List ℕ → ℕ → ℕ → Probe → Type 0
 Scanned E slots a b (Found q) = E q
-Scanned E slots a b (Free i) = First-free E slots a b i
+Scanned E slots a b (Free i) = FirstFree E slots a b i
 Scanned E slots a b Full = (j : ℕ) → a ≤ j → j < b → Other E slots j
 
 -- the slot for a state that is not there: E holds of no state that is entered from this home
