@@ -4,10 +4,38 @@ use naive::adding::Room;
 use output_trials::twin::Twin;
 use reference::fault::Fault;
 use reference::machine::Pair;
+use reference::values::{PlainNumber, PlainText};
 use std::alloc::Global;
 
+/// Plain outputs for lists.
+pub trait Thrown: Twin {
+    /// Some, spelled as in a sheet: many share a prefix.
+    fn spellings() -> &'static [&'static str];
+}
+
+impl Thrown for PlainNumber {
+    fn spellings() -> &'static [&'static str] {
+        &["0", "1", "1", "2", "3", "5", "7", "4294967295"]
+    }
+}
+
+impl Thrown for PlainText {
+    fn spellings() -> &'static [&'static str] {
+        &[
+            "",
+            "m",
+            "mm",
+            "mm",
+            "m/s",
+            "m/h",
+            "bar",
+            "millibar-of-pressure-abs",
+        ]
+    }
+}
+
 /// A list of up to ten pairs. Its keys mostly ascend, some come twice, and now and then one is too long.
-pub fn thrown_list<V: Twin>(heap: Global, dice: &mut Dice) -> Result<Vec<Pair<V>>, Fault> {
+pub fn thrown_list<V: Thrown>(heap: Global, dice: &mut Dice) -> Result<Vec<Pair<V>>, Fault> {
     let letters = 1usize.saturating_add(dice.below(3));
     let mut keys = Vec::new(heap);
     for _ in 0..1usize.saturating_add(dice.below(10)) {
@@ -47,7 +75,7 @@ fn letter(number: usize) -> u8 {
     }
 }
 
-fn thrown_output<V: Twin>(heap: Global, dice: &mut Dice) -> Result<V, Fault> {
+fn thrown_output<V: Thrown>(heap: Global, dice: &mut Dice) -> Result<V, Fault> {
     let spellings = V::spellings();
     let spelling = spellings
         .get(dice.below(spellings.len()))

@@ -24,43 +24,48 @@ fn append_code<S: Store, O: Output>(store: &mut S, output: &O) -> Option<Refusal
     packer.finish()
 }
 
-fn comes_back<S: Store, O: Output>(rt: &impl Abort, store: &mut S, output: &O) -> Result<(), Fail> {
+/// Fails with a reason unless something holds.
+fn hold(holds: bool, reason: &'static str) -> Result<(), Fail> {
+    if holds {
+        Ok(())
+    } else {
+        Err(Fail::new(reason))
+    }
+}
+
+fn comes_back<S: Store, O: Output>(store: &mut S, output: &O) -> Result<(), Fail> {
     let place = store.count().saturating_mul(8);
-    assert_eq!(rt; append_code(store, output), None);
+    hold(append_code(store, output).is_none(), "a code has no room")?;
     match O::read(&StoreBits::new(&*store), place) {
-        Ok((back, _)) => {
-            assert!(rt; back.same(output));
-            Ok(())
-        },
+        Ok((back, _)) => hold(back.same(output), "another output is read"),
         Err(_) => Err(Fail::new("a code is not read")),
     }
 }
 
-fn all_come_back<S: Store>(rt: &impl Abort, store: &mut S) -> Result<(), Fail> {
+fn all_come_back<S: Store>(store: &mut S) -> Result<(), Fail> {
     let Ok(none) = Text::new(b"") else {
         return Err(Fail::new("no bytes"))
     };
     let Ok(long) = Text::new(b"DAM-2 NORTH GALLERY P017") else {
         return Err(Fail::new("24 bytes"))
     };
-    comes_back(rt, store, &Number { value: 0 })?;
+    comes_back(store, &Number { value: 0 })?;
     comes_back(
-        rt,
         store,
         &Number {
             value: 4_294_967_295,
         },
     )?;
-    comes_back(rt, store, &none)?;
-    comes_back(rt, store, &long)
+    comes_back(store, &none)?;
+    comes_back(store, &long)
 }
 
 #[test]
-fn outputs_come_back_from_both_stores(rt: HostRuntime) -> Result<(), Fail> {
+fn outputs_come_back_from_both_stores() -> Result<(), Fail> {
     let mut bytes = [0xEE; 40];
     let mut words: [u32; 10] = [0xEEEE_EEEE; 10];
-    all_come_back(&rt, &mut ByteStore::new(&mut bytes, 3))?;
-    all_come_back(&rt, &mut WordStore::new(&mut words, 5))
+    all_come_back(&mut ByteStore::new(&mut bytes, 3))?;
+    all_come_back(&mut WordStore::new(&mut words, 5))
 }
 
 /// What reading answers where a store ends with the first `count` bits of a row.
@@ -87,50 +92,46 @@ fn read_cut<S: Store, O: Output>(store: &mut S, _kind: &O, row: u32, count: usiz
 }
 
 /// The same on both stores, behind two bytes.
-fn answer<O: Output>(rt: &impl Abort, kind: &O, row: u32, count: usize) -> Told {
+fn answer<O: Output>(kind: &O, row: u32, count: usize) -> Result<Told, Fail> {
     let mut bytes = [0xEE; 8];
     let mut words: [u32; 2] = [0xEEEE_EEEE; 2];
     let one = read_cut(&mut ByteStore::new(&mut bytes, 2), kind, row, count);
     let other = read_cut(&mut WordStore::new(&mut words, 2), kind, row, count);
-    assert_eq!(rt; one, other);
-    one
+    hold(one == other, "the stores differ")?;
+    Ok(one)
 }
 
 #[test]
-fn numbers_are_cut_at_each_bit(rt: HostRuntime) {
+fn numbers_are_cut_at_each_bit(rt: HostRuntime) -> Result<(), Fail> {
     let kind = Number { value: 0 };
     for count in 0..32 {
         assert_eq!(rt;
-            answer(&rt, &kind, 0xDEAD_BEEF, count),
+            answer(&kind, 0xDEAD_BEEF, count)?,
             Told::Cut(Refusal::Missing(2 + (count + 7) / 8))
         );
     }
-    assert_eq!(rt; answer(&rt, &kind, 0xDEAD_BEEF, 32), Told::Read);
+    assert_eq!(rt; answer(&kind, 0xDEAD_BEEF, 32)?, Told::Read);
+    Ok(())
 }
 
 #[test]
-fn texts_are_cut_at_each_bit(rt: HostRuntime) {
+fn texts_are_cut_at_each_bit(rt: HostRuntime) -> Result<(), Fail> {
     let kind = Text::empty();
     // The text "to" has the length 00010 and the bytes 01110100 01101111.
     let code: u32 = 0b00010_01110100_01101111;
     for count in 0..21 {
         assert_eq!(rt;
-            answer(&rt, &kind, code >> (21 - count), count),
+            answer(&kind, code >> (21 - count), count)?,
             Told::Cut(Refusal::Missing(2 + (count + 7) / 8))
         );
     }
-    assert_eq!(rt; answer(&rt, &kind, code, 21), Told::Read);
-    assert_eq!(rt;
-        answer(&rt, &kind, 0b110, 3),
-        Told::Cut(Refusal::Missing(3))
-    );
-    assert_eq!(rt;
-        answer(&rt, &kind, 0b1100, 4),
-        Told::Cut(Refusal::Missing(3))
-    );
-    assert_eq!(rt; answer(&rt, &kind, 0b111, 3), Told::NoCode);
-    assert_eq!(rt; answer(&rt, &kind, 0b1101, 4), Told::NoCode);
-    assert_eq!(rt; answer(&rt, &kind, 0b11001, 5), Told::NoCode);
+    assert_eq!(rt; answer(&kind, code, 21)?, Told::Read);
+    assert_eq!(rt; answer(&kind, 0b110, 3)?, Told::Cut(Refusal::Missing(3)));
+    assert_eq!(rt; answer(&kind, 0b1100, 4)?, Told::Cut(Refusal::Missing(3)));
+    assert_eq!(rt; answer(&kind, 0b111, 3)?, Told::NoCode);
+    assert_eq!(rt; answer(&kind, 0b1101, 4)?, Told::NoCode);
+    assert_eq!(rt; answer(&kind, 0b11001, 5)?, Told::NoCode);
+    Ok(())
 }
 
 #[test]

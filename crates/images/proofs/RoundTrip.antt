@@ -7,7 +7,7 @@ use Rattle.outputs.specs.Kinds.{Kind, Laws}
 use Rattle.machines.specs.Lists.{at, Each}
 use Rattle.machines.specs.Machines.{State, Machine, count_arcs, targeted, end_flag, sum_at}
 use Rattle.machines.specs.Lengths.{longest_from}
-use Rattle.machines.proofs.Lists.{get_d_at, below_at, at_below}
+use Rattle.machines.proofs.Lists.{get_or_at, below_at, at_below}
 use Rattle.images.specs.Images.{head_bits, records_bits, places, index_bits, in_turn, image_bits, image_of}
 use Rattle.images.specs.Steps.{Refusal, refusal_at, reads, refuses, Reader, ◌>>=◌, field}
 use Rattle.images.specs.Loads.{head, record_place, keys_at, entries, records, all_targeted, whole, load}
@@ -70,7 +70,7 @@ module _ (k : Kind) (laws : Laws k) (m : Machine k.Ideal) (counts : List ℕ) (k
         let keyed : (i : ℕ) → i < n → keys_at k all index i ≡ get_or counts i 0
         = λ i l. keys_there k laws all m.states counts index base i fit.each_counted counts_fit low l indexed recorded in
         let last : m.start ≡ n - 1 = omega (arith, fit.start_last) in
-        let start_keys : keys_at k all index (n - 1) ≡ keys = keyed (n - 1) (omega (arith, fit.some_states)) ∙ ap (λ q. get_or counts q 0) (sym last) ∙ get_d_at counts m.start keys 0 fit.all_counted in
+        let start_keys : keys_at k all index (n - 1) ≡ keys = keyed (n - 1) (omega (arith, fit.some_states)) ∙ ap (λ q. get_or counts q 0) (sym last) ∙ get_or_at counts m.start keys 0 fit.all_counted in
         let entered : entries k all n index ≡ reads tt base
         = ap (λ j. entries k all j index) (sym ps_n) ∙ entries_read k laws all ps index low indexed ∙ ap (λ j. reads tt j) (omega (arith, length_index ps)) in
         let taken : records k all index 0 n [] base ≡ reads m.states used

@@ -1,7 +1,7 @@
 //! The records of an image, one for each state.
 ghost use Rattle.std.specs.Prelude.{◌≡◌, ℕ, ◌+◌, ◌*◌, ◌^◌, ◌<◌, ◌≤◌, [], length, IfOk};
 ghost use Rattle.outputs.specs.Bits.{spread};
-ghost use Rattle.images.specs.Loads.{entry_place, misshapen, end_output as EndStep, record_at, records as records_step};
+ghost use Rattle.images.specs.Loads.{entry_place, misshapen, end_output as end_step, record_at, records as records_step};
 ghost use Rattle.loading.specs.Answers.{Answers, Passes};
 ghost use Rattle.loading.specs.Index.{There};
 ghost use Rattle.loading.specs.Working.{RecordRead, RecordsRead};
@@ -15,7 +15,7 @@ use stores::Store;
 /// Passes the end output at a place if the flag is set, and gives the place behind it.
 fn pass_end<O: Output, S: Store>(store: &S, place: usize, flag: u32) -> Result<usize, LoadRefusal>
     requires { (place < 2 ^ 32) × (place ≤ length (spread (S.Store.bytes store.now))) }
-    ensures passes { Passes (EndStep O.Output.kind (spread (S.Store.bytes store.now)) flag place) result }
+    ensures passes { Passes (end_step O.Output.kind (spread (S.Store.bytes store.now)) flag place) result }
     ensures within { IfOk result (λ p. (p < 2 ^ 32) × (p ≤ length (spread (S.Store.bytes store.now)))) }
 {
     if flag == 1 {

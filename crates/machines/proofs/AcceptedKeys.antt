@@ -8,7 +8,7 @@ use Rattle.machines.specs.Machines.{State, end_flag, sum_at}
 use Rattle.machines.specs.Pairs.{Pairs, output_of, under, KeyPrefix, first_bytes, Ascending, AllStorable}
 use Rattle.machines.specs.Residuals.{greatest_common, rests, first_prefixes, class_number}
 use Rattle.machines.specs.Minimal.{arcs_of, rest_some, end_of, minimal, key_counts}
-use Rattle.machines.proofs.Lists.{In, get_d_at, at_map, at_unmap}
+use Rattle.machines.proofs.Lists.{In, get_or_at, at_map, at_unmap}
 use Rattle.machines.proofs.Under.{under_found, ascending_under}
 use Rattle.machines.proofs.KeyCounts.{under_under, sum_under, counts}
 use Rattle.machines.proofs.RightAnswers.{class_first}
@@ -40,7 +40,7 @@ module _ (k : Kind) (laws : Laws k) (P : Pairs k.Ideal) (ascending : Ascending P
   -- the count behind an arc
   pub arc_counted : (v : Key) (a : ℕ) → In a (first_bytes (under P v)) → get_or (key_counts k P) (class_number k P (v ++ (a ∷ []))) 0 ≡ length (under (under P v) (a ∷ []))
   arc_counted v a i =
-      get_d_at (key_counts k P) (class_number k P (v ++ (a ∷ []))) _ 0 (counted (v ++ (a ∷ [])) (next_prefix k laws P v a i))
+      get_or_at (key_counts k P) (class_number k P (v ++ (a ∷ []))) _ 0 (counted (v ++ (a ∷ [])) (next_prefix k laws P v a i))
       ∙ ap length (sym (under_under P v a ascending))
 
   sum_counted : (v : Key) (bs : List ℕ) → ((a : ℕ) → In a bs → In a (first_bytes (under P v))) → sum_at (key_counts k P) (arcs_of k P (first_prefixes k P) v bs) ≡ sum_under (under P v) bs

@@ -13,14 +13,14 @@ use Rattle.machines.proofs.Order.{head_found, same_key_refl}
 use Rattle.machines.proofs.FirstBytes.{still_found}
 
 -- v is u followed by something
-abbrev pub Goes_on : Key → Key → Type 0
-Goes_on v u = (w : Key) × (u ++ w ≡ v)
+abbrev pub GoesOn : Key → Key → Type 0
+GoesOn v u = (w : Key) × (u ++ w ≡ v)
 
-each_longer : (a : ℕ) (v : Key) (us : List Key) → Each (Goes_on v) us → Each (Goes_on (a ∷ v)) (map (λ u. a ∷ u) us)
+each_longer : (a : ℕ) (v : Key) (us : List Key) → Each (GoesOn v) us → Each (GoesOn (a ∷ v)) (map (λ u. a ∷ u) us)
 each_longer a v [] h = tt
 each_longer a v (u ∷ us) h = ((h.0.0, ap {B = Key} (λ l. a ∷ l) h.0.1), each_longer a v us h.1)
 
-pub each_prefix : (v : Key) → Each (Goes_on v) (prefixes v)
+pub each_prefix : (v : Key) → Each (GoesOn v) (prefixes v)
 each_prefix [] = (([], refl), tt)
 each_prefix (a ∷ v) = ((a ∷ v, refl), each_longer a v (prefixes v) (each_prefix v))
 
@@ -42,7 +42,7 @@ module _ {A : Type 0} where
   each_key_prefix [] = tt
   each_key_prefix (p ∷ P) =
       each_put_all (KeyPrefix (p ∷ P)) (prefixes p.0) (key_prefixes P)
-      (each_map (Goes_on p.0) (KeyPrefix (p ∷ P)) (prefixes p.0) (λ u g. (g.0, p.1, subst (λ v. output_of (p ∷ P) v ≡ some p.1) (sym g.1) (head_found p P))) (each_prefix p.0))
+      (each_map (GoesOn p.0) (KeyPrefix (p ∷ P)) (prefixes p.0) (λ u g. (g.0, p.1, subst (λ v. output_of (p ∷ P) v ≡ some p.1) (sym g.1) (head_found p P))) (each_prefix p.0))
       (each_map (KeyPrefix P) (KeyPrefix (p ∷ P)) (key_prefixes P) (λ u s. let f = still_found p P (u ++ s.0) s.1 s.2 in (s.0, f.0, f.1)) (each_key_prefix P))
 
 pub same_bits_refl : (bs : List Bool) → same_bits bs bs ≡ true

@@ -34,10 +34,10 @@ at_in [] i x e = let o : ◌≡◌ {A = ℕ} 0 1 = cc in absurd (omega arith)
 at_in (y ∷ ys) zero x e = let o : y ≡ x = cc in inl (sym o)
 at_in (y ∷ ys) (suc i) x e = inr (at_in ys i x e)
 
-pub get_d_at : {A : Type 0} (xs : List A) (i : ℕ) (x d : A) → at xs i ≡ some x → get_or xs i d ≡ x
-get_d_at [] i x d e = let o : ◌≡◌ {A = ℕ} 0 1 = cc in absurd (omega arith)
-get_d_at (y ∷ ys) zero x d e = cc
-get_d_at (y ∷ ys) (suc i) x d e = get_d_at ys i x d e
+pub get_or_at : {A : Type 0} (xs : List A) (i : ℕ) (x d : A) → at xs i ≡ some x → get_or xs i d ≡ x
+get_or_at [] i x d e = let o : ◌≡◌ {A = ℕ} 0 1 = cc in absurd (omega arith)
+get_or_at (y ∷ ys) zero x d e = cc
+get_or_at (y ∷ ys) (suc i) x d e = get_or_at ys i x d e
 
 pub at_below : {A : Type 0} (xs : List A) (i : ℕ) → i < length xs → (x : A) × (at xs i ≡ some x)
 at_below [] i h = absurd (omega arith)

@@ -19,11 +19,11 @@ use Rattle.machines.proofs.ByteStrings.{found_each}
 use Rattle.machines.proofs.Walks.{rest_found}
 
 -- one more at the end
-getD_end : (D : List ℕ) (x j : ℕ) → ((j ≡ length D) × (get_or (D ++ (x ∷ [])) j 0 ≡ x)) ⊎ (get_or (D ++ (x ∷ [])) j 0 ≡ get_or D j 0)
-getD_end [] x zero = inl (refl, refl)
-getD_end [] x (suc j) = inr refl
-getD_end (d ∷ D) x zero = inr refl
-getD_end (d ∷ D) x (suc j) = elim (getD_end D x j) [ inl e ↦ inl (ap suc e.0, e.1) | inr e ↦ inr e ]
+get_or_end : (D : List ℕ) (x j : ℕ) → ((j ≡ length D) × (get_or (D ++ (x ∷ [])) j 0 ≡ x)) ⊎ (get_or (D ++ (x ∷ [])) j 0 ≡ get_or D j 0)
+get_or_end [] x zero = inl (refl, refl)
+get_or_end [] x (suc j) = inr refl
+get_or_end (d ∷ D) x zero = inr refl
+get_or_end (d ∷ D) x (suc j) = elim (get_or_end D x j) [ inl e ↦ inl (ap suc e.0, e.1) | inr e ↦ inr e ]
 
 longest_short : {A : Type 0} (P : Pairs A) → ShortKeys P → longest P ≤ 64
 longest_short [] h = omega arith
@@ -73,7 +73,7 @@ module _ (k : Kind) (laws : Laws k) (P : Pairs k.Ideal) (ascending : Ascending P
       x = longest_on D (arcs_of k P (first_prefixes k P) u (first_bytes (under P u)))
 
       next : Bounded (D ++ (x ∷ []))
-      next j v e = go (getD_end D x j)
+      next j v e = go (get_or_end D x j)
         where
           go : ((j ≡ length D) × (get_or (D ++ (x ∷ [])) j 0 ≡ x)) ⊎ (get_or (D ++ (x ∷ [])) j 0 ≡ get_or D j 0) → get_or (D ++ (x ∷ [])) j 0 ≤ longest (under P v)
           go (inl p) =

@@ -13,10 +13,10 @@ use Rattle.machines.proofs.Targets.{targets_below}
 use Rattle.machines.proofs.AcceptedKeys.{state_counted}
 
 -- what stands in front is not changed by what follows
-get_d_front : (D E : List ℕ) (i : ℕ) → i < length D → get_or (D ++ E) i 0 ≡ get_or D i 0
-get_d_front [] E i h = absurd (omega arith)
-get_d_front (d ∷ D) E zero h = refl
-get_d_front (d ∷ D) E (suc i) h = get_d_front D E i (omega arith)
+get_or_front : (D E : List ℕ) (i : ℕ) → i < length D → get_or (D ++ E) i 0 ≡ get_or D i 0
+get_or_front [] E i h = absurd (omega arith)
+get_or_front (d ∷ D) E zero h = refl
+get_or_front (d ∷ D) E (suc i) h = get_or_front D E i (omega arith)
 
 at_behind : (D : List ℕ) (e : ℕ) (E : List ℕ) → at (D ++ (e ∷ E)) (length D) ≡ some e
 at_behind [] e E = refl
@@ -29,7 +29,7 @@ no_more (e ∷ E) h = absurd (omega arith)
 module _ {A : Type 0} where
   sum_front : (D E : List ℕ) (arcs : List (Arc A)) → Each (λ arc. arc.target < length D) arcs → sum_at (D ++ E) arcs ≡ sum_at D arcs
   sum_front D E [] h = refl
-  sum_front D E (arc ∷ arcs) h = ap₂ ◌+◌ (get_d_front D E arc.target h.0) (sum_front D E arcs h.1)
+  sum_front D E (arc ∷ arcs) h = ap₂ ◌+◌ (get_or_front D E arc.target h.0) (sum_front D E arcs h.1)
 
   -- states whose counts stand in a list behind those that are done
   recounted : (ss : List (State A)) (D E : List ℕ) → length E ≡ length ss

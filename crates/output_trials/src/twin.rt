@@ -15,9 +15,6 @@ pub trait Twin: Value {
 
     /// Whether both stand for one output.
     fn means(&self, proved: &Self::Proved) -> bool;
-
-    /// Outputs for lists, spelled as in a sheet: many share a prefix.
-    fn spellings() -> &'static [&'static str];
 }
 
 impl Twin for PlainNumber {
@@ -30,10 +27,6 @@ impl Twin for PlainNumber {
     fn means(&self, proved: &Number) -> bool {
         self.0 == proved.value
     }
-
-    fn spellings() -> &'static [&'static str] {
-        &["0", "1", "1", "2", "3", "5", "7", "4294967295"]
-    }
 }
 
 impl Twin for PlainText {
@@ -45,19 +38,6 @@ impl Twin for PlainText {
 
     fn means(&self, proved: &Text) -> bool {
         self.bytes.as_slice() == proved.as_bytes()
-    }
-
-    fn spellings() -> &'static [&'static str] {
-        &[
-            "",
-            "m",
-            "mm",
-            "mm",
-            "m/s",
-            "m/h",
-            "bar",
-            "millibar-of-pressure-abs",
-        ]
     }
 }
 

@@ -71,9 +71,17 @@ fn save_two<S: Store>(store: &mut S) -> Result<Saved, SaveRefusal> {
     )
 }
 
+/// Fails with a reason unless something holds.
+fn hold(holds: bool, reason: &'static str) -> Result<(), Fail> {
+    if holds {
+        Ok(())
+    } else {
+        Err(Fail::new(reason))
+    }
+}
+
 /// An image was saved at the place, and ends the store.
 fn check_saved<S: Store>(
-    rt: &impl Abort,
     told: Result<Saved, SaveRefusal>,
     place: usize,
     image: &[u8],
@@ -82,56 +90,52 @@ fn check_saved<S: Store>(
     let Ok(saved) = told else {
         return Err(Fail::new("not saved"))
     };
-    assert_eq!(rt; saved.place, place);
-    assert_eq!(rt; saved.length, image.len());
-    assert_eq!(rt; store.count(), place.saturating_add(image.len()));
+    hold(saved.place == place, "another place")?;
+    hold(saved.length == image.len(), "another length")?;
+    hold(
+        store.count() == place.saturating_add(image.len()),
+        "the image does not end the store",
+    )?;
     for i in 0..image.len() {
         let Ok(byte) = store.at(place.saturating_add(i)) else {
             return Err(Fail::new("a byte is missing"))
         };
-        assert_eq!(rt; byte, image[i]);
+        hold(byte == image[i], "another byte")?;
     }
     Ok(())
 }
 
-fn check_refused(
-    rt: &impl Abort,
-    told: Result<Saved, SaveRefusal>,
-    number: u8,
-) -> Result<(), Fail> {
+fn check_refused(told: Result<Saved, SaveRefusal>, number: u8) -> Result<(), Fail> {
     match told {
         Ok(_) => Err(Fail::new("not refused")),
-        Err(refusal) => {
-            assert_eq!(rt; refusal.number(), number);
-            Ok(())
-        },
+        Err(refusal) => hold(refusal.number() == number, "another refusal"),
     }
 }
 
 #[test]
-fn images_are_saved_one_behind_another(rt: HostRuntime) -> Result<(), Fail> {
+fn images_are_saved_one_behind_another() -> Result<(), Fail> {
     let mut memory = [0xEE; 77];
     let mut store = ByteStore::new(&mut memory, 3);
     let told = save_smallest(&mut store, 1);
-    check_saved(&rt, told, 3, SMALLEST, &store)?;
+    check_saved(told, 3, SMALLEST, &store)?;
     let told = save_two(&mut store);
-    check_saved(&rt, told, 29, TWO, &store)
+    check_saved(told, 29, TWO, &store)
 }
 
 #[test]
-fn a_store_of_words_takes_the_same_bytes(rt: HostRuntime) -> Result<(), Fail> {
+fn a_store_of_words_takes_the_same_bytes() -> Result<(), Fail> {
     let mut memory: [u32; 12] = [0xEEEE_EEEE; 12];
     let mut store = WordStore::new(&mut memory, 0);
     let told = save_two(&mut store);
-    check_saved(&rt, told, 0, TWO, &store)
+    check_saved(told, 0, TWO, &store)
 }
 
 #[test]
 fn a_byte_too_few_and_no_pair_are_refused(rt: HostRuntime) -> Result<(), Fail> {
     let mut memory = [0xEE; 28];
     let mut store = ByteStore::new(&mut memory, 3);
-    check_refused(&rt, save_smallest(&mut store, 1), 15)?;
-    check_refused(&rt, save_smallest(&mut store, 0), 10)?;
+    check_refused(save_smallest(&mut store, 1), 15)?;
+    check_refused(save_smallest(&mut store, 0), 10)?;
     assert_eq!(rt; store.count(), 3);
     Ok(())
 }

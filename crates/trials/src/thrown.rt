@@ -1,6 +1,6 @@
 // Some thousands of thrown lists given to the builder.
 use builder_trials::dice::Dice;
-use builder_trials::lists::{thrown_list, thrown_room};
+use builder_trials::lists::{Thrown, thrown_list, thrown_room};
 use builder_trials::trial::{Score, try_list};
 use output_trials::twin::Twin;
 use reference::fault::Fault;
@@ -21,7 +21,7 @@ pub fn print_thrown(rt: &HostRuntime) -> anyhow::Result<()> {
     print_score(rt, "thrown lists of texts", &texts)
 }
 
-fn try_lists<V: Twin>(heap: Global, dice: &mut Dice, score: &mut Score) -> Result<(), Fault> {
+fn try_lists<V: Thrown>(heap: Global, dice: &mut Dice, score: &mut Score) -> Result<(), Fault> {
     for _ in 0..LISTS {
         let pairs = thrown_list::<V>(heap, dice)?;
         let room = thrown_room(dice);
