@@ -1,14 +1,9 @@
 -- Where two keys part, and which of them is lower. Assumes nothing.
-use Rattle.std.proofs.Common.{◌≡◌, ℕ, zero, suc, ◌+◌, ◌<◌, ◌≤◌, min, Bool, true, false, ◌&&◌, ◌||◌, eqb, ltb, [], ◌∷◌, length, get_or, drop, sym, refl, ap, ◌∙◌, arith, le-ltb, eq-eqb, ne_eqb, eqb-true}
+use Rattle.std.proofs.Common.{◌≡◌, ℕ, zero, suc, ◌+◌, ◌<◌, ◌≤◌, min, Bool, true, false, ◌&&◌, ◌||◌, eqb, ltb, [], ◌∷◌, length, get_or, drop, sym, refl, ◌∙◌, arith, le-ltb, eq-eqb, ne_eqb, eqb-true}
 use borrow.Author.Tests.{eqb_apart}
 use Rattle.std.proofs.lemmas.List.{drop_more}
 use Rattle.machines.specs.Keys.{Key, lower, common_length}
-
-common_same : (a b : ℕ) (u v : Key) → a ≡ b → common_length (a ∷ u) (b ∷ v) ≡ suc (common_length u v)
-common_same a b u v e = ap {B = ℕ} (λ t. elim t [ true ↦ suc (common_length u v) | false ↦ 0 ]) (eq-eqb a b e)
-
-common_apart : (a b : ℕ) (u v : Key) → (a ≡ b → ⊥) → common_length (a ∷ u) (b ∷ v) ≡ 0
-common_apart a b u v n = ap {B = ℕ} (λ t. elim t [ true ↦ suc (common_length u v) | false ↦ 0 ]) (ne_eqb a b n)
+use Rattle.machines.proofs.OneMore.{common_same, common_other}
 
 -- the empty key shares nothing
 pub common_none : (u : Key) → common_length u [] ≡ 0
@@ -23,7 +18,7 @@ common_more i u v hu hv e =
 
 -- the next bytes differ
 pub common_stop : (i : ℕ) (u v : Key) → i < length u → i < length v → (get_or u i 0 ≡ get_or v i 0 → ⊥) → common_length (drop i u) (drop i v) ≡ 0
-common_stop i u v hu hv n = (λ j. common_length (drop_more u i 0 hu j) (drop_more v i 0 hv j)) ∙ common_apart (get_or u i 0) (get_or v i 0) (drop (i + 1) u) (drop (i + 1) v) n
+common_stop i u v hu hv n = (λ j. common_length (drop_more u i 0 hu j) (drop_more v i 0 hv j)) ∙ common_other (get_or u i 0) (get_or v i 0) (drop (i + 1) u) (drop (i + 1) v) n
 
 -- one key ends
 pub common_past : (i : ℕ) (u v : Key) → min (length u) (length v) ≤ i → common_length (drop i u) (drop i v) ≡ 0
@@ -71,7 +66,7 @@ lower_prefix (a ∷ u) [] e = absurd (omega arith)
 lower_prefix (a ∷ u) (b ∷ v) e =
     by_bytes a b (lower (b ∷ v) (a ∷ u) ≡ false)
     (λ s. lower_same a b u v s ∙ lower_prefix u v (omega (arith, common_same a b u v s, e)))
-    (λ n. absurd (omega (arith, common_apart a b u v n, e)))
+    (λ n. absurd (omega (arith, common_other a b u v n, e)))
 
 -- a key that goes on where the other ends is above it
 pub lower_longer : (u v : Key) → common_length u v ≡ length v → length v < length u → lower v u ≡ true
@@ -80,7 +75,7 @@ lower_longer (a ∷ u) [] e h = refl
 lower_longer (a ∷ u) (b ∷ v) e h =
     by_bytes a b (lower (b ∷ v) (a ∷ u) ≡ true)
     (λ s. lower_same a b u v s ∙ lower_longer u v (omega (arith, common_same a b u v s, e)) (omega arith))
-    (λ n. absurd (omega (arith, common_apart a b u v n, e)))
+    (λ n. absurd (omega (arith, common_other a b u v n, e)))
 
 -- else the bytes where they part tell
 pub lower_parting : (d : ℕ) (u v : Key) → d ≡ common_length u v → d < length u → d < length v → lower v u ≡ ltb (get_or v d 0) (get_or u d 0)
@@ -90,4 +85,4 @@ lower_parting zero (a ∷ u) (b ∷ v) e hu hv = lower_apart a b u v (λ q. absu
 lower_parting (suc d) (a ∷ u) (b ∷ v) e hu hv =
     by_bytes a b (lower (b ∷ v) (a ∷ u) ≡ ltb (get_or v d 0) (get_or u d 0))
     (λ s. lower_same a b u v s ∙ lower_parting d u v (omega (arith, common_same a b u v s, e)) (omega arith) (omega arith))
-    (λ n. absurd (omega (arith, common_apart a b u v n, e)))
+    (λ n. absurd (omega (arith, common_other a b u v n, e)))

@@ -1,12 +1,11 @@
 -- The number of an equal closed state: what the construction finds by codes is the one state that is equal. Assumes the kind's laws, that all outputs are storable, and that no two closed states are equal.
 use Rattle.std.proofs.Common.{◌≡◌, ℕ, zero, suc, ◌+◌, ◌<◌, Bool, true, false, cond, ◌&&◌, eqb, List, [], ◌∷◌, map, length, take, drop, sym, refl, ap, ◌∙◌, subst, arith}
 use mathlib.Core.Option.{Option, none, some}
-use Rattle.std.proofs.lemmas.Bool.{false≢true, eqb-true, eq-eqb, and_parts, and_from}
+use Rattle.std.proofs.lemmas.Bool.{false≢true, eqb-true, and_parts}
 use Rattle.outputs.specs.Kinds.{Kind, Laws, same}
 use Rattle.machines.specs.Lists.{Each}
 use Rattle.machines.specs.Machines.{Arc as Edge, State as Node}
-use Rattle.machines.proofs.Classes.{same_bits_refl}
-use Rattle.machines.proofs.CommonOutputs.{same_bits_true, code_injective}
+use Rattle.construction.proofs.Comparing.{same_state_self, same_equal}
 use Rattle.construction.specs.Records.{Open, state_of, same_end, same_arcs, same_state, number_from, number_of}
 use Rattle.records.specs.declared.record.Arc.{Arc}
 use Rattle.records.specs.declared.record.State.{State}
@@ -26,29 +25,12 @@ pub record Stored (k : Kind) (s : Node k.Ideal) : Type 0 where
   pub arcs : StoredArcs k s.arcs
 
 module _ (k : Kind) where
-  same_end_refl : (x : Option k.Ideal) → same_end k x x ≡ true
-  same_end_refl none = refl
-  same_end_refl (some x) = same_bits_refl (k.code x)
-
-  same_arcs_refl : (es : List (Edge k.Ideal)) → same_arcs k es es ≡ true
-  same_arcs_refl [] = refl
-  same_arcs_refl (e ∷ es) =
-      let bytes = and_from (eqb e.byte e.byte) (eqb e.target e.target) (eq-eqb e.byte e.byte refl) (eq-eqb e.target e.target refl) in
-      and_from (eqb e.byte e.byte && eqb e.target e.target && same k e.output e.output) (same_arcs k es es)
-      (and_from (eqb e.byte e.byte && eqb e.target e.target) (same k e.output e.output) bytes (same_bits_refl (k.code e.output))) (same_arcs_refl es)
-
-  same_state_refl : (s : Node k.Ideal) → same_state k s s ≡ true
-  same_state_refl s = and_from (same_end k s.end s.end) (same_arcs k s.arcs s.arcs) (same_end_refl s.end) (same_arcs_refl s.arcs)
-
   module _ (laws : Laws k) where
-    same_true : (x y : k.Ideal) → k.storable x ≡ true → k.storable y ≡ true → same k x y ≡ true → x ≡ y
-    same_true x y sx sy e = code_injective k laws x y sx sy (same_bits_true (k.code x) (k.code y) e)
-
     same_end_true : (x y : Option k.Ideal) → StoredEnd k x → StoredEnd k y → same_end k x y ≡ true → x ≡ y
     same_end_true none none sx sy e = refl
     same_end_true none (some y) sx sy e = absurd (false≢true e)
     same_end_true (some x) none sx sy e = absurd (false≢true e)
-    same_end_true (some x) (some y) sx sy e = ap {B = Option k.Ideal} (λ z. some z) (same_true x y sx sy e)
+    same_end_true (some x) (some y) sx sy e = ap {B = Option k.Ideal} (λ z. some z) (same_equal k laws x y sx sy e)
 
     same_arcs_true : (es fs : List (Edge k.Ideal)) → StoredArcs k es → StoredArcs k fs → same_arcs k es fs ≡ true → es ≡ fs
     same_arcs_true [] [] se sf t = refl
@@ -60,7 +42,7 @@ module _ (k : Kind) where
         let way = and_parts (eqb e.byte f.byte) (eqb e.target f.target) one.0 in
         let byte = eqb-true e.byte f.byte way.0 in
         let target = eqb-true e.target f.target way.1 in
-        let output = same_true e.output f.output se.0 sf.0 one.1 in
+        let output = same_equal k laws e.output f.output se.0 sf.0 one.1 in
         let rest = same_arcs_true es fs se.1 sf.1 all.1 in
         λ i. record { byte = byte i; target = target i; output = output i } ∷ rest i
 
@@ -90,7 +72,7 @@ module _ (k : Kind) where
         where
           go : (b : Bool) → same_state k s t ≡ b → ◌≡◌ {A = Option ℕ} (elim b [ true ↦ some j | false ↦ number_from k (suc j) s ts ]) (some r)
           go true f = let o : j ≡ r = omega arith in ap {B = Option ℕ} (λ n. some n) o
-          go false f = absurd (false≢true (sym f ∙ subst (λ x. same_state k s x ≡ true) e (same_state_refl s)))
+          go false f = absurd (false≢true (sym f ∙ subst (λ x. same_state k s x ≡ true) e (same_state_self k s)))
       found_from j r (t ∷ ts) (suc q) st distinct h e w =
           go (same_state k s t) refl (found_from (suc j) r ts q st.1 (λ p p' l m. distinct (suc p) (suc p') (omega arith) (omega arith)) (omega arith) e (omega arith))
         where

@@ -14,6 +14,8 @@ use Rattle.machines.proofs.Lists.{In}
 use Rattle.machines.proofs.Order.{lower_trans}
 use Rattle.machines.proofs.Walks.{common_storable}
 use Rattle.machines.proofs.Targets.{next_prefix}
+use Rattle.machines.proofs.OneMore.{newest_some}
+use Rattle.machines.proofs.PrefixLaws.{rest_storable}
 use Rattle.construction.specs.Records.{Open, Closed, newest_key}
 use Rattle.construction.specs.Steps.{aim_last, push_end, push_arc, push, last_output}
 use Rattle.construction.specs.Building.{close_beyond, held_after}
@@ -21,16 +23,16 @@ use Rattle.construction.specs.Theorems.{EndStorable, JoinsEnd, Joins, PushStorab
 use Rattle.construction.proofs.Lists.{each_append, each_left, in_right}
 use Rattle.construction.proofs.OneMore.{leaves, up_to_newest}
 use Rattle.construction.proofs.SortedPrefixes.{beyond}
-use Rattle.construction.proofs.Commons.{rest_past, common_rest, rest_storable}
+use Rattle.construction.proofs.Commons.{rest_past, common_rest}
 use Rattle.construction.proofs.ClassLists.{enter_all}
 use Rattle.construction.proofs.AlikeStates.{state_storable}
 use Rattle.construction.proofs.Expected.{closed_of, whole_record, leading_record, first_record, next_records, arcs_push, arc_to, last_push}
 use Rattle.construction.proofs.Settling.{close_is}
 use Rattle.construction.proofs.NewPair.{Comes, Shares, carried, remains, ascends, stores, common_then, then_before, then_new, end_then}
 use Rattle.construction.proofs.Pushing.{Led, led, push_whole}
-use Rattle.construction.proofs.ClosedStates.{holds_closed, all_complete, each_leaves, classes_then}
-use Rattle.construction.proofs.Adding.{held_of, newest_key_is, bytes_new, new_byte}
-use Rattle.construction.proofs.Holding.{newest_some, held_is}
+use Rattle.construction.proofs.ClosedStates.{holds_closed, all_complete, classes_then}
+use Rattle.construction.proofs.Adding.{held_of, newest_key_is, bytes_new, new_byte, closed_off, closing}
+use Rattle.construction.proofs.Holding.{held_is}
 
 module _ (k : Kind) where
   -- what is pushed is storable exactly if the joins are
@@ -98,7 +100,7 @@ module _ (k : Kind) (laws : Laws k) (P : Pairs k.Ideal) (e : Key × k.Ideal) (c 
         )
 
   pub add_storable : AddStorable k (held_of k P c.low) e.0 e.1
-  add_storable = subst (λ d. along (closing d).1 common) (sym depth_is) (subst (λ r. along r.1 common) (sym kept_is) (subst (along (records ds)) common_is (push_storable ds off [] c.leaves.shared refl)))
+  add_storable = subst (λ d. along (closing k laws P e c d).1 common) (sym depth_is) (subst (λ r. along r.1 common) (sym kept_is) (subst (along (records ds)) common_is (push_storable ds (closed_off k laws P e c) [] c.leaves.shared refl)))
     where
       cs : List Key
       cs = held_classes k P
@@ -106,17 +108,11 @@ module _ (k : Kind) (laws : Laws k) (P : Pairs k.Ideal) (e : Key × k.Ideal) (c 
       ds : List Key
       ds = held_classes k P'
 
-      off : Each (λ v. past v e.0 ≡ none) ds
-      off = each_leaves k P e c.ascending c.low c.newest_is c.leaves
-
       common : k.Ideal
       common = k.common (greatest_common k P []) e.1
 
       records : List Key → List (Open k.Ideal)
       records es = first_record k P es [] c.leaves.shared ∷ next_records k P es [] c.leaves.shared
-
-      closing : ℕ → Closed k.Ideal × List (Open k.Ideal)
-      closing d = close_beyond k (length P) (closed_of k P cs) d (first_record k P cs [] c.low) (next_records k P cs [] c.low)
 
       along : List (Open k.Ideal) → k.Ideal → Type 0
       along os y = AlongStorable k (k.rest y (greatest_common k P [])) (k.rest y e.1) os
@@ -127,7 +123,7 @@ module _ (k : Kind) (laws : Laws k) (P : Pairs k.Ideal) (e : Key × k.Ideal) (c 
       common_is : greatest_common k P' [] ≡ common
       common_is = common_then k laws P e c [] c.leaves.shared refl
 
-      kept_is : closing (length c.leaves.shared) ≡ (closed_of k P ds, records ds)
+      kept_is : closing k laws P e c (length c.leaves.shared) ≡ (closed_of k P ds, records ds)
       kept_is =
           subst (λ v. close_beyond k (length P) (closed_of k P cs) (length c.leaves.shared) (first_record k P cs [] v) (next_records k P cs [] v) ≡ (closed_of k P (enter_all k P cs (beyond c.leaves.shared c.leaves.old)), records (enter_all k P cs (beyond c.leaves.shared c.leaves.old)))) (sym c.leaves.low_is)
           (close_is k laws P (ascends k laws P e c) (stores k laws P e c) c.low c.newest_is cs [] c.leaves.shared c.leaves.old c.leaves.low_is (all_complete k laws P (ascends k laws P e c) (stores k laws P e c) c.low c.newest_is) (holds_closed k laws P (ascends k laws P e c) (stores k laws P e c) c.low c.newest_is))

@@ -132,6 +132,14 @@ module _ (k : Kind) (laws : Laws k) (P : Pairs k.Ideal) (e : Key × k.Ideal) (c 
         (extend_is k laws P' e.1 cs (length P) count (c.leaves.shared ++ (c.leaves.byte ∷ [])) c.leaves.new only_new))
     extended u (a ∷ t) h = ap {B = List (Open k.Ideal)} (λ os. leading_record k P' cs u ∷ os) (extended (u ++ (a ∷ [])) t (h ∙ sym (append_assoc u (a ∷ []) t)))
 
+  -- no first prefix that is closed then begins the new key
+  pub closed_off : Each (λ v. past v e.0 ≡ none) (held_classes k P')
+  closed_off = each_leaves k P e c.ascending c.low c.newest_is c.leaves
+
+  -- what is held, closed down to a depth
+  abbrev pub closing : ℕ → Closed k.Ideal × List (Open k.Ideal)
+  closing d = close_beyond k (length P) (closed_of k P (held_classes k P)) d (first_record k P (held_classes k P) [] c.low) (next_records k P (held_classes k P) [] c.low)
+
   -- a pair added
   pub add_is : add k (held_of k P c.low) e.0 e.1 ≡ held_of k P' e.0
   add_is = first ∙ second ∙ third ∙ fourth ∙ fifth ∙ sixth ∙ seventh ∙ last
@@ -145,9 +153,6 @@ module _ (k : Kind) (laws : Laws k) (P : Pairs k.Ideal) (e : Key × k.Ideal) (c 
       ds : List Key
       ds = held_classes k P'
 
-      off : Each (λ v. past v e.0 ≡ none) ds
-      off = each_leaves k P e c.ascending c.low c.newest_is c.leaves
-
       kept_of : List Key → Closed k.Ideal × List (Open k.Ideal)
       kept_of es = (closed_of k P es, first_record k P es [] c.leaves.shared ∷ next_records k P es [] c.leaves.shared)
 
@@ -155,9 +160,6 @@ module _ (k : Kind) (laws : Laws k) (P : Pairs k.Ideal) (e : Key × k.Ideal) (c 
       finish d r y =
           let p : List (Open k.Ideal) × k.Ideal = push_along k (k.rest y (greatest_common k P [])) (k.rest y e.1) r.1 in
           record { closed = r.0; open' = extend_last k n p.0 (drop d e.0) p.1; start = y; pairs = suc n }
-
-      closing : ℕ → Closed k.Ideal × List (Open k.Ideal)
-      closing d = close_beyond k n (closed_of k P cs) d (first_record k P cs [] c.low) (next_records k P cs [] c.low)
 
       common : k.Ideal
       common = k.common (greatest_common k P []) e.1
@@ -183,7 +185,7 @@ module _ (k : Kind) (laws : Laws k) (P : Pairs k.Ideal) (e : Key × k.Ideal) (c 
       pushed = (pushed_first k P e ds [] c.leaves.shared ∷ pushed_next k P e ds [] c.leaves.shared, remains k P e c.leaves.shared)
 
       fifth : finish (length c.leaves.shared) (kept_of ds) (greatest_common k P' []) ≡ grown (drop (length c.leaves.shared) e.0) pushed
-      fifth = ap (grown (drop (length c.leaves.shared) e.0)) (push_is k laws P e c ds off [] c.leaves.shared refl new_byte)
+      fifth = ap (grown (drop (length c.leaves.shared) e.0)) (push_is k laws P e c ds closed_off [] c.leaves.shared refl new_byte)
 
       sixth : grown (drop (length c.leaves.shared) e.0) pushed ≡ grown (c.leaves.byte ∷ c.leaves.new) pushed
       sixth = ap (λ t. grown t pushed) c.leaves.behind
@@ -193,7 +195,7 @@ module _ (k : Kind) (laws : Laws k) (P : Pairs k.Ideal) (e : Key × k.Ideal) (c 
 
       last : ◌≡◌ {A = Held k.Ideal} (record { closed = closed_of k P ds; open' = first_record k P' ds [] (c.leaves.shared ++ (c.leaves.byte ∷ c.leaves.new)) ∷ next_records k P' ds [] (c.leaves.shared ++ (c.leaves.byte ∷ c.leaves.new)); start = greatest_common k P' []; pairs = suc n }) (held_of k P' e.0)
       last =
-          let p = closed_other k P e ds off in
+          let p = closed_other k P e ds closed_off in
           let q = sym c.leaves.key_is in
           let r = sym count in
           λ i. record { closed = p i; open' = first_record k P' ds [] (q i) ∷ next_records k P' ds [] (q i); start = greatest_common k P' []; pairs = r i }

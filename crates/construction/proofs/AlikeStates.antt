@@ -15,23 +15,23 @@ use Rattle.machines.proofs.Classes.{alike_since}
 use Rattle.machines.proofs.Order.{ascending_eq}
 use Rattle.machines.proofs.Counting.{Lacks}
 use Rattle.machines.proofs.FirstBytes.{Heads, all_head}
-use Rattle.machines.proofs.Under.{under_found, ascending_under, ascending_rests, rests_found, all_from}
-use Rattle.machines.proofs.PrefixLaws.{AllPrefixed, greatest_prefix}
+use Rattle.machines.proofs.Under.{under_found, ascending_under, rests_found, all_from}
+use Rattle.machines.proofs.PrefixLaws.{AllPrefixed, greatest_prefix, rest_storable}
 use Rattle.machines.proofs.Membership.{lacks_none, lacks_or_in, in_heads}
 use Rattle.machines.proofs.CommonOutputs.{found_prefixed, rest_steps, same_pairs_true}
 use Rattle.machines.proofs.RightAnswers.{residual_storable, longer, common_grows, arc_lacks, arc_in, arc_of, class_found}
 use Rattle.machines.proofs.Walks.{greatest_rests, rests_longer, residual_on, common_storable, storable_found}
 use Rattle.machines.proofs.ClassNumbers.{class_residual}
 use Rattle.machines.proofs.Targets.{each_arc, next_prefix, bytes_rests}
+use Rattle.machines.proofs.Distinct.{residual_ascending}
 use Rattle.construction.specs.Records.{same_state}
 use Rattle.construction.specs.Theorems.{EndStorable, StateStorable}
 use Rattle.construction.proofs.Comparing.{same_state_self, same_state_equal}
-use Rattle.construction.proofs.Commons.{rest_storable}
 
 module _ (k : Kind) (laws : Laws k) where
   module _ (P : Pairs k.Ideal) (ascending : Ascending P) (storable : AllStorable k P) where
     pub alike_residual : (u v : Key) → alike k P u v ≡ true → residual k P u ≡ residual k P v
-    alike_residual u v e = same_pairs_true k laws (residual k P u) (residual k P v) (residual_storable k laws P ascending storable u) (residual_storable k laws P ascending storable v) e
+    alike_residual u v e = same_pairs_true k laws (residual k P u) (residual k P v) (residual_storable k laws P storable u) (residual_storable k laws P storable v) e
 
     -- what is found in one class has one residual
     same_class : (cs : List Key) (u v : Key) → any_alike k P u cs ≡ true → any_alike k P v cs ≡ true → class_in k P cs u ≡ class_in k P cs v → residual k P u ≡ residual k P v
@@ -58,7 +58,7 @@ module _ (k : Kind) (laws : Laws k) where
     -- all outputs of a prefix's state are storable
     pub state_storable : (cs : List Key) (u : Key) → StateStorable k (state_of k P cs u)
     state_storable cs u = (
-      subst (EndStorable k) (sym (end_is u)) (found_storable (residual k P u) [] (residual_storable k laws P ascending storable u) (output_of (residual k P u) []) refl),
+      subst (EndStorable k) (sym (end_is u)) (found_storable (residual k P u) [] (residual_storable k laws P storable u) (output_of (residual k P u) []) refl),
       each_arc k laws P (λ arc. k.storable arc.output ≡ true) cs u (first_bytes (under P u))
           (λ a i. rest_storable laws (greatest_common k P u) (greatest_common k P (u ++ (a ∷ []))) (common_on u a i) (common_storable k laws P ascending storable (u ++ (a ∷ [])) (next_prefix k laws P u a i))),
     )
@@ -98,9 +98,6 @@ module _ (k : Kind) (laws : Laws k) where
         arcs : arcs_of k P cs u (first_bytes (under P u)) ≡ arcs_of k P cs v (first_bytes (under P v))
         arcs = each (first_bytes (under P u)) (λ a i. i) ∙ ap (arcs_of k P cs v) bytes
 
-    residual_ascending : (u : Key) → Ascending (residual k P u)
-    residual_ascending u = ascending_rests k laws (greatest_common k P u) (under P u) (ascending_under P u ascending)
-
     -- every prefix that is one byte longer has its class in the list
     abbrev pub Complete : List Key → Key → Type 0
     Complete cs u = Each (λ a. any_alike k P (u ++ (a ∷ [])) cs ≡ true) (first_bytes (under P u))
@@ -119,7 +116,7 @@ module _ (k : Kind) (laws : Laws k) where
 
     -- equal states have equal residuals
     residual_equal : (cs : List Key) (u v : Key) → Complete cs u → Complete cs v → state_of k P cs u ≡ state_of k P cs v → residual k P u ≡ residual k P v
-    residual_equal cs u v cu cv e = ascending_eq (residual k P u) (residual k P v) (residual_ascending u) (residual_ascending v) same_output
+    residual_equal cs u v cu cv e = ascending_eq (residual k P u) (residual k P v) (residual_ascending k laws P ascending storable u) (residual_ascending k laws P ascending storable v) same_output
       where
         same_output : (w : Key) → output_of (residual k P u) w ≡ output_of (residual k P v) w
         same_output [] = sym (end_is u) ∙ ap (λ s. s.end) e ∙ end_is v

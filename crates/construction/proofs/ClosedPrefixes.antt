@@ -12,17 +12,11 @@ use Rattle.machines.proofs.ByteStrings.{found_each}
 use Rattle.machines.proofs.Under.{past_append, past_some}
 use Rattle.machines.proofs.Classes.{each_key_prefix}
 use Rattle.machines.proofs.Membership.{in_key_prefixes}
-use Rattle.machines.proofs.Postorder.{before, Sorted, prefixes_sorted}
+use Rattle.machines.proofs.Postorder.{before, Sorted, prefixes_sorted, before_less, before_same}
+use Rattle.machines.proofs.HeldMemory.{not_past}
 use Rattle.construction.proofs.Lists.{in_left, in_right, in_either}
 use Rattle.construction.proofs.OneMore.{newest_prefix, up_to_newest}
-use Rattle.construction.proofs.SortedPrefixes.{before_less, before_same, sorted_append, sorted_equal, beyond, Beyond, each_beyond, in_beyond, beyond_sorted}
-
-pub no_prefix : (v key : Key) → is_prefix v key ≡ false → past v key ≡ none
-no_prefix v key e = go (past v key) e
-  where
-    go : (o : Option Key) → is_some o ≡ false → o ≡ none
-    go none f = refl
-    go (some w) f = absurd (both_ways true f refl)
+use Rattle.construction.proofs.SortedPrefixes.{sorted_append, sorted_equal, beyond, Beyond, each_beyond, in_beyond, beyond_sorted}
 
 some_prefix : (v key t : Key) → past v key ≡ some t → is_prefix v key ≡ true
 some_prefix v key t e = ap is_some e
@@ -144,7 +138,7 @@ module _ {A : Type 0} (P : Pairs A) (ascending : Ascending P) (w : Key) (newest_
       ]
 
   pub each_closed_prefix : Each (λ v. KeyPrefix P v × (past v w ≡ none)) (closed_prefixes P)
-  each_closed_prefix = subst (Each (λ v. KeyPrefix P v × (past v w ≡ none))) (sym closed_is) (each_map _ _ (no_prefixes_of w (key_prefixes P)) (λ v h. (h.0, no_prefix v w h.1)) each_closed)
+  each_closed_prefix = subst (Each (λ v. KeyPrefix P v × (past v w ≡ none))) (sym closed_is) (each_map _ _ (no_prefixes_of w (key_prefixes P)) (λ v h. (h.0, not_past v w h.1)) each_closed)
 
   -- a prefix of a key that is none of the newest key is closed
   pub is_closed : (v : Key) → KeyPrefix P v → past v w ≡ none → In v (closed_prefixes P)

@@ -1,5 +1,5 @@
 -- Greatest common outputs and rests: what one pair more changes. Assumes the laws of a kind.
-use Rattle.std.proofs.Common.{◌≡◌, ℕ, true, [], ◌∷◌, ◌++◌, sym, refl, ap, ◌∙◌, subst, ap₂, arith}
+use Rattle.std.proofs.Common.{◌≡◌, ℕ, [], ◌∷◌, ◌++◌, sym, refl, ap, ◌∙◌, ap₂, arith}
 use mathlib.Core.Option.{none, some}
 use Rattle.outputs.specs.Kinds.{Kind, Laws, PrefixOf}
 use Rattle.machines.specs.Keys.{Key, past}
@@ -50,10 +50,6 @@ module _ {k : Kind} (laws : Laws k) where
 
   pub rest_self : (a : k.Ideal) → k.rest a a ≡ k.empty
   rest_self a = ap (k.rest a) (sym (laws.neutral_right a)) ∙ laws.rest_of_join a k.empty
-
-  -- the rest of a storable output is storable
-  pub rest_storable : (a b : k.Ideal) → PrefixOf k a b → k.storable b ≡ true → k.storable (k.rest a b) ≡ true
-  rest_storable a b p s = (laws.parts_storable a (k.rest a b) (subst (λ z. k.storable z ≡ true) (sym (rest_joined laws a b p)) s)).1
 
 module _ (k : Kind) (P : Pairs k.Ideal) (e : Key × k.Ideal) where
   -- a string that does not begin the new key keeps its common output and its residual

@@ -12,10 +12,10 @@ use Rattle.machines.specs.Pairs.{Pairs, under, first_bytes, Ascending, AllStorab
 use Rattle.machines.specs.Residuals.{alike, any_alike, class_in}
 use Rattle.machines.specs.Minimal.{end_of, state_of}
 use Rattle.machines.proofs.Lists.{each_map}
+use Rattle.machines.proofs.Stored.{under_within}
 use Rattle.construction.specs.Records.{Closed, same_state, number_from}
 use Rattle.construction.specs.Steps.{enter}
 use Rattle.construction.proofs.Lists.{each_append}
-use Rattle.construction.proofs.NextBytes.{under_short}
 use Rattle.construction.proofs.ClassLists.{Extends, enter_class, any_grows, class_new}
 use Rattle.construction.proofs.AlikeStates.{Complete, same_alike}
 use Rattle.construction.proofs.Expected.{closed_of, whole_record, arcs_grow}
@@ -80,7 +80,7 @@ module _ (k : Kind) (laws : Laws k) (P : Pairs k.Ideal) (ascending : Ascending P
       choose o = elim o [ some q ↦ (q, closed_of k P cs) | none ↦ (length (map (state_of k P cs) cs), more) ]
 
       count : length P - (length P - length (under P u)) ≡ length (under P u)
-      count = omega (arith, under_short P u)
+      count = omega (arith, under_within P u)
 
       go : (t : Bool) → any_alike k P u cs ≡ t
           → enter k (length P) (closed_of k P cs) (whole_record k P cs u) ≡ (class_in k P (elim t as (λ i. List Key) [ true ↦ cs | false ↦ cs ++ (u ∷ []) ]) u, closed_of k P (elim t as (λ i. List Key) [ true ↦ cs | false ↦ cs ++ (u ∷ []) ]))

@@ -16,6 +16,7 @@ use Rattle.machines.proofs.Reaching.{empty_prefix}
 use Rattle.machines.proofs.Walks.{common_storable}
 use Rattle.machines.proofs.Targets.{targets_below}
 use Rattle.machines.proofs.Covering.{at_left}
+use Rattle.machines.proofs.OneMore.{newest_some}
 use Rattle.construction.specs.Records.{same_state}
 use Rattle.construction.specs.Building.{held_after}
 use Rattle.construction.specs.Theorems.{StateStorable, OpenStorable, Different, ArcsSound, OpenBelow, HeldSound}
@@ -28,7 +29,7 @@ use Rattle.construction.proofs.Expected.{whole_record, first_record, next_record
 use Rattle.construction.proofs.Entering.{states_grow}
 use Rattle.construction.proofs.ClosedStates.{all_complete}
 use Rattle.construction.proofs.Adding.{held_of}
-use Rattle.construction.proofs.Holding.{newest_some, held_is}
+use Rattle.construction.proofs.Holding.{held_is}
 use Rattle.construction.proofs.Sealing.{classes_end}
 use Rattle.construction.proofs.RecordArcs.{arcs_sound, records_sound, records_below}
 

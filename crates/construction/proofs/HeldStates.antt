@@ -8,14 +8,14 @@ use Rattle.machines.specs.Machines.{Arc, count_arcs}
 use Rattle.machines.specs.Pairs.{Pairs, under, first_bytes, Ascending, AllStorable}
 use Rattle.machines.specs.Memory.{newest, open_prefixes, next_bytes, held_classes}
 use Rattle.machines.specs.Minimal.{arcs_of, state_of}
-use Rattle.machines.proofs.OneMore.{length_prefixes}
+use Rattle.machines.proofs.OneMore.{length_prefixes, newest_some}
 use Rattle.construction.specs.Records.{Held, newest_key, open_arcs}
 use Rattle.construction.specs.Steps.{aim_last}
 use Rattle.construction.specs.Building.{add, add_all, nothing_held, held_after}
 use Rattle.construction.specs.Theorems.{HeldExact}
 use Rattle.construction.proofs.Expected.{first_record, next_records}
 use Rattle.construction.proofs.Adding.{newest_key_is}
-use Rattle.construction.proofs.Holding.{newest_some, held_is}
+use Rattle.construction.proofs.Holding.{held_is}
 
 pub length_aim : {A : Type 0} (q : ℕ) (arcs : List (Arc A)) → length (aim_last q arcs) ≡ length arcs
 length_aim q [] = refl

@@ -11,11 +11,6 @@ use Rattle.construction.proofs.Lists.{each_left}
 use Rattle.construction.proofs.OneMore.{leaves, newest_below, ascending_left}
 use Rattle.construction.proofs.Adding.{held_of, first_is, add_is}
 
--- some pairs have a newest key
-pub newest_some : {A : Type 0} (p : Key × A) (P : Pairs A) → (w : Key) × (newest (p ∷ P) ≡ some w)
-newest_some p [] = (p.0, refl)
-newest_some p (q ∷ P) = newest_some q P
-
 module _ (k : Kind) (laws : Laws k) where
   add_all_is : (P Q : Pairs k.Ideal) (w v : Key) → Ascending (P ++ Q) → AllStorable k (P ++ Q) → newest P ≡ some w → newest (P ++ Q) ≡ some v → add_all k (held_of k P w) Q ≡ held_of k (P ++ Q) v
   add_all_is P [] w v h s n m =

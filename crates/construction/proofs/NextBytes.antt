@@ -1,5 +1,5 @@
 -- The next bytes behind a prefix of the newest key, before and after one pair more. Assumes ascending keys.
-use Rattle.std.proofs.Common.{◌≡◌, ℕ, ◌≤◌, Bool, true, false, eqb, ◌⊎◌, List, [], ◌∷◌, ◌++◌, length, sym, refl, ap, ◌∙◌, subst, inl, inr, arith, eq-eqb, ne_eqb}
+use Rattle.std.proofs.Common.{◌≡◌, ℕ, Bool, true, false, eqb, ◌⊎◌, List, [], ◌∷◌, ◌++◌, sym, refl, ap, ◌∙◌, subst, inl, inr, arith, ne_eqb}
 use mathlib.Core.Option.{Option, none, some}
 use borrow.Author.Tests.{both_ways}
 use Rattle.machines.specs.Lists.{Each}
@@ -9,6 +9,7 @@ use Rattle.machines.specs.Memory.{newest}
 use Rattle.machines.proofs.Lists.{each_map}
 use Rattle.machines.proofs.Order.{lower_ways}
 use Rattle.machines.proofs.Under.{past_append}
+use Rattle.machines.proofs.NextBytes.{newest_cons}
 use Rattle.construction.proofs.OneMore.{HeadBelow, up_to_newest}
 
 heads_below : (v s : Key) (b : ℕ) → (v ≡ s) ⊎ (lower v s ≡ true) → HeadBelow b s → HeadBelow b v
@@ -18,10 +19,6 @@ heads_below (a ∷ v) [] b (inr l) h = absurd (both_ways false refl l)
 heads_below (a ∷ v) (c ∷ s) b (inr l) h = elim (lower_ways a c v s l) [ inl x ↦ omega arith | inr y ↦ omega (arith, y.0) ]
 
 module _ {A : Type 0} where
-  newest_behind : (p : Key × A) (Q : Pairs A) (t : Key) → newest Q ≡ some t → newest (p ∷ Q) ≡ some t
-  newest_behind p [] t e = let o : ◌≡◌ {A = ℕ} 0 1 = cc in absurd (omega arith)
-  newest_behind p (q ∷ Q) t e = e
-
   -- the newest key stands last under each of its prefixes
   pub newest_under : (P : Pairs A) (u t : Key) → newest P ≡ some (u ++ t) → newest (under P u) ≡ some t
   newest_under [] u t e = let o : ◌≡◌ {A = ℕ} 0 1 = cc in absurd (omega arith)
@@ -32,7 +29,7 @@ module _ {A : Type 0} where
     where
       go : (o : Option Key) → newest (under (q ∷ P) u) ≡ some t → newest (elim o as (λ i. Pairs A) [ none ↦ under (q ∷ P) u | some w ↦ (w, p.1) ∷ under (q ∷ P) u ]) ≡ some t
       go none deep = deep
-      go (some w) deep = newest_behind (w, p.1) (under (q ∷ P) u) t deep
+      go (some w) deep = newest_cons (w, p.1) (under (q ∷ P) u) t deep
 
   -- the first byte of the newest key stands last
   pub last_first : (Q : Pairs A) (a : ℕ) (s : Key) → newest Q ≡ some (a ∷ s) → (bs : List ℕ) × (first_bytes Q ≡ bs ++ (a ∷ []))
@@ -58,14 +55,6 @@ module _ {A : Type 0} where
               at true g = (b ∷ bs, ap (in_front c) f ∙ ap {B = List ℕ} (λ t. elim t [ true ↦ b ∷ bs ++ (a ∷ []) | false ↦ c ∷ b ∷ bs ++ (a ∷ []) ]) g)
               at false g = (c ∷ b ∷ bs, ap (in_front c) f ∙ ap {B = List ℕ} (λ t. elim t [ true ↦ b ∷ bs ++ (a ∷ []) | false ↦ c ∷ b ∷ bs ++ (a ∷ []) ]) g)
 
-  -- a key that begins as the newest adds no first byte
-  pub first_again : (Q : Pairs A) (a : ℕ) (s r : Key) (x : A) → newest Q ≡ some (a ∷ s) → first_bytes (Q ++ ((a ∷ r, x) ∷ [])) ≡ first_bytes Q
-  first_again [] a s r x e = let o : ◌≡◌ {A = ℕ} 0 1 = cc in absurd (omega arith)
-  first_again (q ∷ []) a s r x e =
-      let o : q.0 ≡ a ∷ s = cc in
-      ap {B = List ℕ} (λ v. elim v [ [] ↦ a ∷ [] | c ∷ w ↦ in_front c (a ∷ []) ]) o ∙ ap {B = List ℕ} (λ t. elim t [ true ↦ a ∷ [] | false ↦ a ∷ a ∷ [] ]) (eq-eqb a a refl) ∙ sym (ap {B = List ℕ} (λ v. elim v [ [] ↦ [] | c ∷ w ↦ in_front c [] ]) o)
-  first_again (q ∷ p ∷ Q) a s r x e = ap (λ l. elim q.0 as (λ i. List ℕ) [ [] ↦ l | c ∷ w ↦ in_front c l ]) (first_again (p ∷ Q) a s r x e)
-
   -- a key that begins above all others adds its first byte at the end
   pub first_new : (Q : Pairs A) (b : ℕ) (r : Key) (x : A) → Each (λ p. HeadBelow b p.0) Q → first_bytes (Q ++ ((b ∷ r, x) ∷ [])) ≡ first_bytes Q ++ (b ∷ [])
   first_new [] b r x h = refl
@@ -87,11 +76,3 @@ module _ {A : Type 0} where
   -- keys up to one that begins below b begin below b
   pub all_below : (Q : Pairs A) (s : Key) (b : ℕ) → Ascending Q → newest Q ≡ some s → HeadBelow b s → Each (λ p. HeadBelow b p.0) Q
   all_below Q s b h n g = each_map _ _ Q (λ p f. heads_below p.0 s b f g) (up_to_newest Q s h n)
-
-  pub under_short : (P : Pairs A) (u : Key) → length (under P u) ≤ length P
-  under_short [] u = omega arith
-  under_short (p ∷ P) u = go (past u p.0) (under_short P u)
-    where
-      go : (o : Option Key) → length (under P u) ≤ length P → length (elim o as (λ i. Pairs A) [ none ↦ under P u | some w ↦ (w, p.1) ∷ under P u ]) ≤ length (p ∷ P)
-      go none h = omega arith
-      go (some w) h = omega arith

@@ -12,12 +12,13 @@ use Rattle.machines.specs.Minimal.{arcs_of, end_of}
 use Rattle.machines.proofs.Lists.{In, each_map, each_of, each_in}
 use Rattle.machines.proofs.PrefixLaws.{prefix_trans}
 use Rattle.machines.proofs.OneMore.{under_end_some}
+use Rattle.machines.proofs.NextBytes.{same_bytes}
 use Rattle.construction.specs.Records.{Open}
 use Rattle.construction.specs.Steps.{aim_last, push_end, push_arc, push, last_output, with_last_output, lead, push_down}
 use Rattle.construction.proofs.Lists.{in_left, in_right}
 use Rattle.construction.proofs.NewPair.{Comes, Shares, carried, remains, ascends, stores, shares_low, shares_past, common_then, then_before, then_new, end_then, since_then}
 use Rattle.construction.proofs.NewlyClosed.{stays_closed}
-use Rattle.construction.proofs.NextBytes.{newest_under, first_again}
+use Rattle.construction.proofs.NextBytes.{newest_under}
 use Rattle.construction.proofs.Commons.{rest_on, rest_past, common_rest, common_other, residual_other}
 use Rattle.construction.proofs.ClassLists.{Unchanged, class_unchanged}
 use Rattle.construction.proofs.AlikeStates.{common_on}
@@ -75,7 +76,7 @@ module _ (k : Kind) (laws : Laws k) (P : Pairs k.Ideal) (e : Key × k.Ideal) (c 
       let b = split_bytes k laws P (ascends k laws P e c) (stores k laws P e c) c.low c.newest_is u a (t ++ c.leaves.old) (shares_low k laws P e c u (a ∷ t) h) in
       let bytes_then : first_bytes (under P' u) ≡ b.0 ++ (a ∷ [])
       = ap first_bytes (under_end_some P e u (a ∷ t ++ (c.leaves.byte ∷ c.leaves.new)) (shares_past k laws P e c u (a ∷ t) h))
-      ∙ first_again (under P u) a (t ++ c.leaves.old) (t ++ (c.leaves.byte ∷ c.leaves.new)) e.1 (newest_under P u (a ∷ t ++ c.leaves.old) (c.newest_is ∙ ap {B = Option Key} some (shares_low k laws P e c u (a ∷ t) h))) ∙ b.1 in
+      ∙ same_bytes (under P u) a (t ++ c.leaves.old) (t ++ (c.leaves.byte ∷ c.leaves.new)) e.1 (newest_under P u (a ∷ t ++ c.leaves.old) (c.newest_is ∙ ap {B = Option Key} some (shares_low k laws P e c u (a ∷ t) h))) ∙ b.1 in
       let last : In a (b.0 ++ (a ∷ [])) = in_right a b.0 (a ∷ []) (inl refl) in
       let grows : PrefixOf k (greatest_common k P u) (greatest_common k P (u ++ (a ∷ []))) = common_on k laws P (ascends k laws P e c) (stores k laws P e c) u a (subst (In a) (sym b.1) last) in
       let out : k.join (carried k P e u) (k.rest (greatest_common k P u) (greatest_common k P (u ++ (a ∷ [])))) ≡ k.rest (greatest_common k P' u) (greatest_common k P (u ++ (a ∷ [])))

@@ -16,7 +16,7 @@ use Rattle.machines.proofs.Lists.{In, each_of}
 use Rattle.machines.proofs.FirstBytes.{Over, RisingBytes, rising_bytes}
 use Rattle.machines.proofs.ByteStrings.{bytes_behind, prefix_bytes}
 use Rattle.machines.proofs.Under.{ascending_under}
-use Rattle.machines.proofs.Targets.{each_arc, next_prefix}
+use Rattle.machines.proofs.Targets.{each_arc, next_prefix, rising_arcs}
 use Rattle.construction.specs.Steps.{aim_last}
 use Rattle.construction.specs.Theorems.{ArcsSound, OthersBelow, OpenBelow}
 use Rattle.construction.proofs.ClosedPrefixes.{past_same}
@@ -67,14 +67,6 @@ module _ (k : Kind) (P : Pairs k.Ideal) where
       go true f deep = omega arith
       go false f deep = let d = deep f in omega arith
 
-  arcs_rising : (cs : List Key) (u : Key) (bs : List ℕ) → RisingBytes bs → Rising (arcs_of k P cs u bs)
-  arcs_rising cs u [] h = tt
-  arcs_rising cs u (b ∷ bs) h = (over bs h.0, arcs_rising cs u bs h.1)
-    where
-      over : (as' : List ℕ) → Over b as' → Each (λ later. b < later.byte) (arcs_of k P cs u as')
-      over [] o = tt
-      over (a ∷ as') o = (o.0, over as' o.1)
-
 module _ (k : Kind) (laws : Laws k) (P : Pairs k.Ideal) (ascending : Ascending P) where
   next_byte : ByteKeys P → (u : Key) (a : ℕ) → In a (first_bytes (under P u)) → a < 256
   next_byte bytes u a i =
@@ -87,7 +79,7 @@ module _ (k : Kind) (laws : Laws k) (P : Pairs k.Ideal) (ascending : Ascending P
   arcs_sound bytes cs u =
       let r : RisingBytes (first_bytes (under P u)) = rising_bytes (under P u) (ascending_under P u ascending) in
       record {
-        rising = arcs_rising k P cs u (first_bytes (under P u)) r;
+        rising = rising_arcs k laws P cs u (first_bytes (under P u)) r;
         bytes = each_arc k laws P (λ arc. arc.byte < 256) cs u (first_bytes (under P u)) (next_byte bytes u);
         few = subst (λ n. n ≤ 256) (sym (length_arcs k P cs u (first_bytes (under P u)))) (few_bytes 256 (first_bytes (under P u)) r (each_of _ (first_bytes (under P u)) (next_byte bytes u)));
       }

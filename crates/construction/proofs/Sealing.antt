@@ -11,12 +11,13 @@ use Rattle.machines.specs.Residuals.{greatest_common, rests, residual, alike, an
 use Rattle.machines.specs.Minimal.{minimal, key_counts}
 use Rattle.machines.proofs.Lists.{each_map}
 use Rattle.machines.proofs.StartLast.{longest, longest_under, longest_rests, longest_all, start_last}
+use Rattle.machines.proofs.Stored.{under_within}
+use Rattle.machines.proofs.OneMore.{newest_some}
 use Rattle.construction.specs.Records.{Open, Closed, state_of}
 use Rattle.construction.specs.Building.{held_after, sealed_states, sealed}
 use Rattle.construction.specs.Theorems.{SealedMinimal}
 use Rattle.construction.proofs.SortedPrefixes.{beyond, each_beyond}
 use Rattle.construction.proofs.ClosedPrefixes.{all_prefixes}
-use Rattle.construction.proofs.NextBytes.{under_short}
 use Rattle.construction.proofs.ClassLists.{enter_all, enter_append, firsts_are, held_are, each_enter}
 use Rattle.construction.proofs.AlikeStates.{alike_residual}
 use Rattle.construction.proofs.Expected.{closed_of}
@@ -24,7 +25,7 @@ use Rattle.construction.proofs.Entering.{closed_push}
 use Rattle.construction.proofs.Settling.{settle_is}
 use Rattle.construction.proofs.ClosedStates.{each_held, holds_closed, all_complete}
 use Rattle.construction.proofs.Adding.{held_of}
-use Rattle.construction.proofs.Holding.{newest_some, held_is}
+use Rattle.construction.proofs.Holding.{held_is}
 
 module _ (k : Kind) (laws : Laws k) where
   -- no other prefix is alike to the empty one: its longest string is longer
@@ -72,7 +73,7 @@ module _ (k : Kind) (laws : Laws k) where
     states_of_held =
         let d = settle_is k laws P ascending storable w newest_is (held_classes k P) [] w refl (all_complete k laws P ascending storable w newest_is) (holds_closed k laws P ascending storable w newest_is) in
         ap finish d.is
-        ∙ closed_push k laws P ascending storable all_but [] (length P - (length P - length (under P []))) (omega (arith, under_short P [])) d.all d.here
+        ∙ closed_push k laws P ascending storable all_but [] (length P - (length P - length (under P []))) (omega (arith, under_within P [])) d.all d.here
         ∙ ap (closed_of k P) classes_end
       where
         finish : Closed k.Ideal × Open k.Ideal → Closed k.Ideal

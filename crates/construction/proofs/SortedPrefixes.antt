@@ -1,25 +1,11 @@
 -- Lists of strings in postorder: equal if they have the same elements; the prefixes of a key beyond a prefix, the longest first. Assumes nothing.
-use Rattle.std.proofs.Common.{◌≡◌, ℕ, ◌<◌, true, false, ◌&&◌, eqb, ltb, ◌⊎◌, List, [], ◌∷◌, ◌++◌, sym, refl, ap, ◌∙◌, subst, ap₂, inl, inr, append_assoc, append-nil, arith, ltb-true, lt-ltb, eq-eqb, eqb-true}
+use Rattle.std.proofs.Common.{◌≡◌, ℕ, ◌<◌, true, false, ◌⊎◌, List, [], ◌∷◌, ◌++◌, sym, refl, ap, ◌∙◌, subst, ap₂, inl, inr, append_assoc, append-nil, arith}
 use borrow.Author.Tests.{both_ways}
-use Rattle.std.proofs.lemmas.Bool.{and_parts, and_from, or_cases, or_left, or_right}
 use Rattle.machines.specs.Lists.{Each}
 use Rattle.machines.specs.Keys.{Key}
 use Rattle.machines.proofs.Lists.{In, each_in, each_map}
-use Rattle.machines.proofs.Postorder.{before, Sorted}
+use Rattle.machines.proofs.Postorder.{before, Sorted, before_ways, longer_before}
 use Rattle.construction.proofs.Lists.{in_left, in_right}
-
-pub before_ways : (a b : ℕ) (u v : Key) → before (a ∷ u) (b ∷ v) ≡ true → (a < b) ⊎ ((a ≡ b) × (before u v ≡ true))
-before_ways a b u v e =
-    elim (or_cases (ltb a b) (eqb a b && before u v) e) [
-      | inl l ↦ inl (ltb-true a b l)
-      | inr r ↦ let p = and_parts (eqb a b) (before u v) r in inr (eqb-true a b p.0, p.1)
-    ]
-
-pub before_less : (a b : ℕ) (u v : Key) → a < b → before (a ∷ u) (b ∷ v) ≡ true
-before_less a b u v h = or_left (ltb a b) (eqb a b && before u v) (lt-ltb a b h)
-
-pub before_same : (a b : ℕ) (u v : Key) → a ≡ b → before u v ≡ true → before (a ∷ u) (b ∷ v) ≡ true
-before_same a b u v e l = or_right (ltb a b) (eqb a b && before u v) (and_from (eqb a b) (before u v) (eq-eqb a b e) l)
 
 -- no two strings come before each other
 before_once : (u v : Key) → before u v ≡ true → before v u ≡ true → ⊥
@@ -32,11 +18,6 @@ before_once (a ∷ u) (b ∷ v) e f = go (before_ways a b u v e) (before_ways b 
     go (inl h) (inr q) deep = omega (arith, q.0)
     go (inr p) (inl i) deep = omega (arith, p.0)
     go (inr p) (inr q) deep = deep p.1 q.1
-
--- a longer string comes first
-pub longer_before : (v w : Key) (a : ℕ) → before (v ++ (a ∷ w)) v ≡ true
-longer_before [] w a = refl
-longer_before (b ∷ v) w a = before_same b b (v ++ (a ∷ w)) v refl (longer_before v w a)
 
 pub sorted_append : (us vs : List Key) → Sorted us → Sorted vs → Each (λ u. Each (λ v. before u v ≡ true) vs) us → Sorted (us ++ vs)
 sorted_append [] vs h g e = g

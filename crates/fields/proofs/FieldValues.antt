@@ -1,5 +1,5 @@
 -- A field of bits, from the whole bytes that hold it. Assumes nothing.
-use Rattle.std.proofs.Common.{◌≡◌, ℕ, zero, suc, ◌+◌, ◌-◌, ◌*◌, ◌/◌, ◌%◌, ◌^◌, ◌<◌, ◌≤◌, Bool, List, [], ◌∷◌, ◌++◌, length, get_or, take, drop, Ok, Err, sym, refl, ap, ◌∙◌, subst, ap₂, append_assoc, arith, length-drop, length-take, pow_mono}
+use Rattle.std.proofs.Common.{◌≡◌, ℕ, zero, suc, ◌+◌, ◌-◌, ◌*◌, ◌/◌, ◌%◌, ◌^◌, ◌<◌, ◌≤◌, Bool, List, [], ◌∷◌, ◌++◌, length, get_or, take, drop, Ok, Err, sym, refl, ap, ◌∙◌, subst, ap₂, arith, length-drop, length-take, pow_mono}
 use Rattle.std.proofs.lemmas.List.{take-append-drop, drop-append-le, take-append-le, drop-drop, get_or-drop, length-take-le}
 use Rattle.std.proofs.lemmas.Nat.{pow_pos, one_shl, mod_below}
 use Rattle.stores.specs.declared.Refusal.{Refusal}
@@ -7,14 +7,10 @@ use Rattle.outputs.specs.Bits.{bits, value, spread}
 use Rattle.outputs.specs.Fields.{Field, field_width}
 use Rattle.outputs.specs.BitRows.{length_bits, value_bits, value_below}
 use Rattle.outputs.specs.TextBytes.{spread_more}
-use Rattle.outputs.specs.TextLaws.{length_spread}
+use Rattle.outputs.specs.TextLaws.{length_spread, spread_append}
 use Rattle.fields.specs.declared.reading.Window.{Window}
 use Rattle.fields.specs.Reads.{Gathered, Windowed, missing}
 use Rattle.fields.proofs.RowValues.{value_append, value_part}
-
-pub spread_append : (xs ys : List ℕ) → spread (xs ++ ys) ≡ spread xs ++ spread ys
-spread_append [] ys = refl
-spread_append (x ∷ xs) ys = ap (λ (z : List Bool). bits 8 x ++ z) (spread_append xs ys) ∙ sym (append_assoc (bits 8 x) (spread xs) (spread ys))
 
 drop_none : (n : ℕ) → drop {A = Bool} n [] ≡ []
 drop_none zero = refl

@@ -1,14 +1,11 @@
 -- The number of a row of bits, from the numbers of its parts. Assumes nothing.
-use Rattle.std.proofs.Common.{◌≡◌, ℕ, suc, ◌+◌, ◌*◌, ◌/◌, ◌%◌, ◌^◌, ◌<◌, Bool, List, [], ◌∷◌, ◌++◌, length, take, drop, sym, refl, ap, ◌∙◌, subst, mul_assoc, mul_comm, add-mul, arith, length-drop}
+use Rattle.std.proofs.Common.{◌≡◌, ℕ, suc, ◌+◌, ◌*◌, ◌/◌, ◌%◌, ◌^◌, ◌<◌, Bool, List, [], ◌∷◌, ◌++◌, length, take, drop, sym, ap, ◌∙◌, subst, mul_assoc, mul_comm, add-mul, arith, length-drop}
 use native.Mathlib.Nat.{pow-succ'}
 use Rattle.std.proofs.lemmas.List.{take-append-drop, length-take-le}
 use Rattle.std.proofs.lemmas.Nat.{pow-add, shr_high, mod_low}
 use Rattle.outputs.specs.Bits.{bit, value, value_on}
 use Rattle.outputs.specs.BitRows.{value_below}
-
-value_on_append : (n : ℕ) (xs ys : List Bool) → value_on n (xs ++ ys) ≡ value_on (value_on n xs) ys
-value_on_append n [] ys = refl
-value_on_append n (x ∷ xs) ys = value_on_append (2 * n + bit x) xs ys
+use Rattle.outputs.specs.TextLaws.{value_on_append}
 
 value_on_weighs : (ys : List Bool) (n : ℕ) → value_on n ys ≡ n * 2 ^ length ys + value ys
 value_on_weighs [] n = omega arith

@@ -4,7 +4,8 @@ use native.Mathlib.Nat.{pow-succ'}
 use lib.ListN.{length-replicate}
 use borrow.Author.Tests.{eqb-false}
 use Rattle.outputs.specs.Bits.{bits, bits_before, bit, spread, filling, bytes_from, packed}
-use Rattle.outputs.specs.BitRows.{bits_before_append, length_bits}
+use Rattle.outputs.specs.BitRows.{bits_before_append}
+use Rattle.outputs.specs.TextLaws.{length_spread}
 
 -- one more bit behind those of a number
 bits_step : (w x : ℕ) (b : Bool) → bits (suc w) (2 * x + bit b) ≡ bits w x ++ (b ∷ [])
@@ -78,14 +79,6 @@ pub spread_packed : (row : List Bool) → spread (packed row) ≡ row ++ replica
 spread_packed row =
     begun_spread row 0 8 0 refl (omega arith) ∙ ap (λ l. l ++ (row ++ replicate (filling (0 + length row)) false)) (no_bits 0)
     ∙ ap (λ n. row ++ replicate (filling n) false) (zero-add (length row))
-
-pub spread_append : (xs ys : List ℕ) → spread (xs ++ ys) ≡ spread xs ++ spread ys
-spread_append [] ys = refl
-spread_append (x ∷ xs) ys = ap (λ l. bits 8 x ++ l) (spread_append xs ys) ∙ sym (append_assoc (bits 8 x) (spread xs) (spread ys))
-
-pub length_spread : (xs : List ℕ) → length (spread xs) ≡ 8 * length xs
-length_spread [] = refl
-length_spread (x ∷ xs) = length-append (bits 8 x) (spread xs) ∙ omega (arith, length_bits 8 x, length_spread xs)
 
 -- the bits of packed bytes, counted: those of the row and the filling
 pub packed_bits : (row : List Bool) → 8 * length (packed row) ≡ length row + filling (length row)

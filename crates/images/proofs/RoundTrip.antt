@@ -4,24 +4,21 @@ use mathlib.Core.Option.{some}
 use Rattle.std.proofs.lemmas.Bool.{not_from_true}
 use Rattle.outputs.specs.Bits.{bits, spread, filling, packed}
 use Rattle.outputs.specs.Kinds.{Kind, Laws}
+use Rattle.outputs.specs.TextLaws.{spread_append}
 use Rattle.machines.specs.Lists.{at, Each}
 use Rattle.machines.specs.Machines.{State, Machine, count_arcs, targeted, end_flag, sum_at}
 use Rattle.machines.specs.Lengths.{longest_from}
 use Rattle.machines.proofs.Lists.{get_or_at, below_at, at_below}
 use Rattle.images.specs.Images.{head_bits, records_bits, places, index_bits, in_turn, image_bits, image_of}
-use Rattle.images.specs.Steps.{Refusal, refusal_at, reads, refuses, Reader, ◌>>=◌, field}
+use Rattle.images.specs.Steps.{refusal_at, reads, refuses, field}
 use Rattle.images.specs.Loads.{head, record_place, keys_at, entries, records, all_targeted, whole, load}
 use Rattle.images.specs.Fits.{FitState, Fit}
 use Rattle.images.specs.RoundTrip.{LoadsBack}
-use Rattle.images.proofs.Packing.{spread_packed, spread_append, packed_bits, length_packed, zero_bits}
-use Rattle.images.proofs.Standing.{Stands, stands_first, stands_front, stands_behind, stands_at, then_reads, then_passes, then_tests, field_reads}
+use Rattle.images.proofs.Packing.{spread_packed, packed_bits, length_packed, zero_bits}
+use Rattle.images.proofs.Standing.{Stands, stands_first, stands_front, stands_behind, stands_at, then_reads, then_passes, then_tests, field_reads, then_none}
 use Rattle.images.proofs.IndexReads.{length_index, length_places, length_records, entries_read, keys_there, records_read}
 use Rattle.images.proofs.ImageLengths.{each_at, places_below, length_head, length_image, image_short}
 use Rattle.images.proofs.HeadReads.{head_of, head_reads, head_refuses, states_there, arcs_there, keys_held}
-
--- a refusal ends the steps
-then_none : {A B : Type 0} (r : Reader A) (f : A → Reader B) (p : ℕ) (e : Refusal) → r p ≡ refuses e → ◌>>=◌ r f p ≡ refuses e
-then_none r f p e h = rw (h, ◌>>=◌)
 
 -- every state from q on is some arc's target
 targets_read : (k : Kind) (all : List Bool) (index : ℕ) (ss : List (State k.Ideal)) (q n p : ℕ) → ((i : ℕ) → i < q + n → targeted i ss ≡ true) → all_targeted k all index ss q n p ≡ reads tt p

@@ -36,9 +36,12 @@ stands_at {all} {row} e s = subst (λ n. Stands all n row) e s
 pub stands_next : {all : List Bool} {p : ℕ} (w x : ℕ) (b : List Bool) → Stands all p (bits w x ++ b) → Stands all (p + w) b
 stands_next {p = p} w x b s = stands_at (ap (λ n. p + n) (length_bits w x)) (stands_behind (bits w x) b s)
 
--- a step that reads hands on
+-- a step that reads hands on, and a refusal ends the steps
 pub then_reads : {A B : Type 0} (r : Reader A) (f : A → Reader B) (p p' : ℕ) (x : A) → r p ≡ reads x p' → ◌>>=◌ r f p ≡ f x p'
 then_reads r f p p' x e = rw (e, ◌>>=◌)
+
+pub then_none : {A B : Type 0} (r : Reader A) (f : A → Reader B) (p : ℕ) (e : Refusal) → r p ≡ refuses e → ◌>>=◌ r f p ≡ refuses e
+then_none r f p e h = rw (h, ◌>>=◌)
 
 pub then_passes : {A B : Type 0} (r : Reader A) (s : Reader B) (p p' : ℕ) (x : A) → r p ≡ reads x p' → ◌>>◌ r s p ≡ s p'
 then_passes r s p p' x e = rw (e, ◌>>◌)

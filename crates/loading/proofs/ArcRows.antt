@@ -3,15 +3,17 @@ use Rattle.std.proofs.Common.{◌≡◌, ℕ, suc, ◌+◌, ◌-◌, ◌<◌, mi
 use Rattle.outputs.specs.Kinds.{Kind}
 use Rattle.machines.specs.Lists.{Each}
 use Rattle.machines.specs.Machines.{Arc}
+use Rattle.machines.proofs.Lists.{each_more}
 use Rattle.images.specs.Steps.{Step, refuses}
 use Rattle.images.specs.Loads.{arc, arcs, keys_at, sum_over}
+use Rattle.images.proofs.Standing.{then_reads, then_none}
 use Rattle.loading.specs.declared.refusal.LoadRefusal.{LoadRefusal}
 use Rattle.loading.specs.declared.arcs.Arc as Code
 use Rattle.loading.specs.Refusals.{reported}
 use Rattle.loading.specs.Answers.{Answers}
 use Rattle.loading.specs.Working.{length_in, longest_in, Aimed, RowRead}
-use Rattle.loading.proofs.Walking.{has_read, has_refused, is_read, then_reads, then_refuses}
-use Rattle.loading.proofs.Marking.{longest_more, sum_more, each_more, aimed_none, aimed_more, noted}
+use Rattle.loading.proofs.Walking.{has_read, has_refused, is_read}
+use Rattle.loading.proofs.Marking.{longest_more, sum_more, aimed_none, aimed_more, noted}
 
 -- i arcs are read: the definition from the start is the definition from here on
 pub record Walked (k : Kind) (all : List Bool) (index q count : ℕ) (w : List ℕ) (p₀ i least keys longest p : ℕ) (w' : List ℕ) : Type 0 where
@@ -69,7 +71,7 @@ module _ (k : Kind) (all : List Bool) (index q count : ℕ) (w : List ℕ) (p₀
     unfolding arcs
     stops d l a =
         let n : count - i ≡ suc (count - (i + 1)) = omega arith in
-        h.ahead ∙ ap here n ∙ then_refuses (arc k all q least) rest p (reported d) (has_refused {X = Arc k.Ideal} {Y = Code.Arc} SameArc (arc k all q least p) d a)
+        h.ahead ∙ ap here n ∙ then_none (arc k all q least) rest p (reported d) (has_refused {X = Arc k.Ideal} {Y = Code.Arc} SameArc (arc k all q least p) d a)
 
     -- all arcs are read, and the state takes its own length
     pub ends : (w'' : List ℕ) → i ≡ count → q < length w' → w'' ≡ set w' q longest → Answers (RowRead k all index q count w w'') (arcs k all q count 0 [] p₀) (Ok (keys, p))

@@ -3,10 +3,11 @@ use Rattle.std.proofs.Common.{◌≡◌, ℕ, suc, ◌+◌, ◌-◌, ◌<◌, Bo
 use Rattle.outputs.specs.Kinds.{Kind}
 use Rattle.images.specs.Steps.{reads, refuses, field}
 use Rattle.images.specs.Loads.{entries}
+use Rattle.images.proofs.Standing.{then_reads, then_none}
 use Rattle.loading.specs.declared.refusal.LoadRefusal.{LoadRefusal}
 use Rattle.loading.specs.Refusals.{reported}
 use Rattle.loading.specs.Answers.{Answers}
-use Rattle.loading.proofs.Walking.{has_read, has_refused, then_reads, then_refuses}
+use Rattle.loading.proofs.Walking.{has_read, has_refused}
 
 module _ (k : Kind) (all : List Bool) (n index i p : ℕ) (ahead : entries k all n index ≡ entries k all (n - i) p) where
   -- the entry at p is read
@@ -22,7 +23,7 @@ module _ (k : Kind) (all : List Bool) (n index i p : ℕ) (ahead : entries k all
   unfolding entries
   entries_stop d l h =
       let e : n - i ≡ suc (n - (i + 1)) = omega arith in
-      ahead ∙ ap (λ (m : ℕ). entries k all m p) e ∙ then_refuses (field all 32) (λ x. entries k all (n - (i + 1))) p (reported d) (has_refused (λ (v x : ℕ). v ≡ x) (field all 32 p) d h)
+      ahead ∙ ap (λ (m : ℕ). entries k all m p) e ∙ then_none (field all 32) (λ x. entries k all (n - (i + 1))) p (reported d) (has_refused (λ (v x : ℕ). v ≡ x) (field all 32 p) d h)
 
   pub entries_end : i ≡ n → entries k all n index ≡ reads tt p
   unfolding entries

@@ -1,17 +1,14 @@
 -- The loop over the marks beside its definition, and a filling of no bits. Assumes nothing.
-use Rattle.std.proofs.Common.{◌≡◌, ℕ, suc, ◌+◌, ◌-◌, ◌<◌, ◌≤◌, Bool, true, false, not, eqb, List, length, get_or, ap, ◌∙◌, arith, le-leb}
+use Rattle.std.proofs.Common.{◌≡◌, ℕ, suc, ◌+◌, ◌-◌, ◌<◌, ◌≤◌, Bool, true, not, eqb, List, length, get_or, ap, ◌∙◌, arith, le-leb}
 use borrow.Author.Tests.{lt-leb}
 use Rattle.outputs.specs.Bits.{filling}
 use Rattle.outputs.specs.Kinds.{Kind}
 use Rattle.images.specs.Steps.{Step, reads, refuses, Reader, ◌>>=◌, ◌>>◌, refuse, refusal_at, field, field_if}
 use Rattle.images.specs.Loads.{record_place}
+use Rattle.images.proofs.Standing.{then_reads, then_tests}
 use Rattle.loading.specs.Ends.{all_marked, filled}
-use Rattle.loading.proofs.Walking.{then_reads}
 
--- a test that finds no fault, and one that does
-pub test_passes : {B : Type 0} (n at : ℕ) (t : Bool) (s : Reader B) (p : ℕ) → t ≡ false → ◌>>◌ (refuse n at t) s p ≡ s p
-test_passes {B} n at t s p e = ap {A = Bool} {B = Step B} (λ b. ◌>>◌ (refuse n at b) s p) e
-
+-- a test that finds fault refuses
 pub test_refuses : {B : Type 0} (n at : ℕ) (t : Bool) (s : Reader B) (p : ℕ) → t ≡ true → ◌>>◌ (refuse n at t) s p ≡ refuses (refusal_at n at)
 test_refuses {B} n at t s p e = ap {A = Bool} {B = Step B} (λ b. ◌>>◌ (refuse n at b) s p) e
 
@@ -25,7 +22,7 @@ module _ (k : Kind) (all : List Bool) (index n p q : ℕ) (w : List ℕ) (ahead 
       let e : n - q ≡ suc (n - (q + 1)) = omega arith in
       let f : suc q ≡ q + 1 = omega arith in
       ahead ∙ ap (λ (m : ℕ). all_marked k all index w q m p) e
-      ∙ test_passes 25 (record_place k all index q) _ rest p (ap not (le-leb 128 (get_or w q 0) h)) ∙ ap (λ (m : ℕ). all_marked k all index w m (n - (q + 1)) p) f
+      ∙ then_tests 25 (record_place k all index q) _ rest p (ap not (le-leb 128 (get_or w q 0) h)) ∙ ap (λ (m : ℕ). all_marked k all index w m (n - (q + 1)) p) f
 
   pub marked_stop : q < n → get_or w q 0 < 128 → all_marked k all index w 0 n p ≡ refuses (refusal_at 25 (record_place k all index q))
   unfolding all_marked

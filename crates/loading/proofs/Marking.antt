@@ -23,10 +23,6 @@ pub sum_more : {A : Type 0} (f : ℕ → ℕ) (row : List (Arc A)) (x : Arc A) �
 sum_more f [] x = omega arith
 sum_more f (a ∷ row) x = omega (arith, sum_more f row x)
 
-pub each_more : {A : Type 0} (P : A → Type 0) (xs : List A) (x : A) → Each P xs → P x → Each P (xs ++ (x ∷ []))
-each_more P [] x h l = (l, tt)
-each_more P (y ∷ xs) x h l = (h.0, each_more P xs x h.1 l)
-
 module _ {A : Type 0} (w : List ℕ) (q : ℕ) where
   pub aimed_none : Aimed {A = A} w w q []
   aimed_none = record { lengths = λ t l. refl; marks = λ t l. sym (or-false (marked_in w t)) }

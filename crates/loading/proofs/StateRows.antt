@@ -4,11 +4,12 @@ use Rattle.outputs.specs.Kinds.{Kind}
 use Rattle.machines.specs.Machines.{State, count_arcs}
 use Rattle.images.specs.Steps.{Step, refuses}
 use Rattle.images.specs.Loads.{record_at, records}
+use Rattle.images.proofs.Standing.{then_reads, then_none}
 use Rattle.loading.specs.declared.refusal.LoadRefusal.{LoadRefusal}
 use Rattle.loading.specs.Refusals.{reported}
 use Rattle.loading.specs.Answers.{Answers}
 use Rattle.loading.specs.Working.{RecordRead, RecordsRead, Kept, Noted}
-use Rattle.loading.proofs.Walking.{has_read, has_refused, is_read, then_reads, then_refuses}
+use Rattle.loading.proofs.Walking.{has_read, has_refused, is_read}
 use Rattle.loading.proofs.Keeping.{count_more, kept_none, kept_more}
 
 -- q records are read: the definition from the start is the definition from here on
@@ -54,7 +55,7 @@ module _ (k : Kind) (all : List Bool) (index n p₀ : ℕ) where
     unfolding records
     stops w' d l a =
         let e : n - q ≡ suc (n - (q + 1)) = omega arith in
-        h.ahead ∙ ap here e ∙ then_refuses (record_at k all index q) rest p (reported d) (has_refused {X = State k.Ideal} {Y = ℕ} (RecordRead q w w') (record_at k all index q p) d a)
+        h.ahead ∙ ap here e ∙ then_none (record_at k all index q) rest p (reported d) (has_refused {X = State k.Ideal} {Y = ℕ} (RecordRead q w w') (record_at k all index q p) d a)
 
     -- all records are read
     pub ends : q ≡ n → Answers (RecordsRead n w) (records k all index 0 n [] p₀) (Ok (count, p))

@@ -1,6 +1,6 @@
 -- What code answered, as an equation of the step, and back. Assumes nothing.
 use Rattle.std.proofs.Common.{◌≡◌, ℕ, IsErrAnd, IfOk, Ok, Err, Result, sym, refl, ap, subst}
-use Rattle.images.specs.Steps.{Step, reads, refuses, Refusal, Reader, ◌>>=◌}
+use Rattle.images.specs.Steps.{Step, reads, refuses, Refusal}
 use Rattle.loading.specs.declared.refusal.LoadRefusal.{LoadRefusal}
 use Rattle.loading.specs.Refusals.{reported}
 use Rattle.loading.specs.Answers.{Answers, Passes}
@@ -42,10 +42,3 @@ module _ {X : Type 0} where
   pub is_stopped : (s : Step X) (e : LoadRefusal) (r : Result ℕ LoadRefusal) (P : ℕ → Type 0) → s ≡ refuses (reported e) → IsErrAnd r (λ y. y ≡ e) → Passes s r × IfOk r P
   is_stopped s e (Ok y) P h k = absurd k
   is_stopped s e (Err y) P h k = (subst (λ (z : Step X). Passes z (Err y)) (sym h) (ap {A = LoadRefusal} {B = Refusal} reported k), tt)
-
--- a step, and then another
-pub then_reads : {A B : Type 0} (r : Reader A) (f : A → Reader B) (p p' : ℕ) (x : A) → r p ≡ reads x p' → ◌>>=◌ r f p ≡ f x p'
-then_reads {A} {B} r f p p' x e = ap {A = Step A} {B = Step B} (λ s. elim s [ reads y q ↦ f y q | refuses d ↦ refuses d ]) e
-
-pub then_refuses : {A B : Type 0} (r : Reader A) (f : A → Reader B) (p : ℕ) (d : Refusal) → r p ≡ refuses d → ◌>>=◌ r f p ≡ refuses d
-then_refuses {A} {B} r f p d e = ap {A = Step A} {B = Step B} (λ s. elim s [ reads y q ↦ f y q | refuses d ↦ refuses d ]) e

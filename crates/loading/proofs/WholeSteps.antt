@@ -4,6 +4,7 @@ use Rattle.outputs.specs.Kinds.{Kind}
 use Rattle.machines.specs.Machines.{State, Machine}
 use Rattle.images.specs.Steps.{Step, reads, refuses, Refusal, Reader, ◌>>=◌, ◌>>◌}
 use Rattle.images.specs.Loads.{Head, head, entries, records, whole}
+use Rattle.images.proofs.Standing.{then_reads, then_none}
 use Rattle.loading.specs.declared.head.Head as Code
 use Rattle.loading.specs.declared.refusal.LoadRefusal.{LoadRefusal}
 use Rattle.loading.specs.Refusals.{reported}
@@ -12,7 +13,7 @@ use Rattle.loading.specs.Heads.{head_of}
 use Rattle.loading.specs.Wholes.{WholeRead}
 use Rattle.loading.specs.Working.{RecordsRead}
 use Rattle.loading.specs.Ends.{ending}
-use Rattle.loading.proofs.Walking.{has_read, is_read, has_passed, has_stopped, then_reads, then_refuses}
+use Rattle.loading.proofs.Walking.{has_read, is_read, has_passed, has_stopped}
 use Rattle.loading.proofs.EndsAlike.{giving, machine_of, behind_records, ends_alike}
 
 module _ (k : Kind) (all : List Bool) (working : ℕ) where
@@ -27,7 +28,7 @@ module _ (k : Kind) (all : List Bool) (working : ℕ) where
     behind_index front
 
   pub head_refuses : (d : Refusal) → head k all working 0 ≡ refuses d → whole k all working 0 ≡ refuses d
-  head_refuses d e = then_refuses (head k all working) behind_head 0 d e
+  head_refuses d e = then_none (head k all working) behind_head 0 d e
 
   module _ (front : Head k.Ideal) (p : ℕ) (h : head k all working 0 ≡ reads front p) where
     after_head : whole k all working 0 ≡ behind_head front p
@@ -44,7 +45,7 @@ module _ (k : Kind) (all : List Bool) (working : ℕ) where
       after_index = after_head ∙ ap on_index i
 
       pub records_refuse : (d : Refusal) → records k all front.index 0 front.states [] q ≡ refuses d → whole k all working 0 ≡ refuses d
-      records_refuse d e = after_index ∙ then_refuses (records k all front.index 0 front.states []) (behind_records k all front) q d e
+      records_refuse d e = after_index ∙ then_none (records k all front.index 0 front.states []) (behind_records k all front) q d e
 
       module _ (ss : List (State k.Ideal)) (o count : ℕ) (w : List ℕ) (r : records k all front.index 0 front.states [] q ≡ reads ss o) (l : 0 < front.states) (f : RecordsRead front.states w count ss) where
         after_records : whole k all working 0 ≡ giving (machine_of k all front ss) (ending k all front count w o)

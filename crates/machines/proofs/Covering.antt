@@ -11,9 +11,8 @@ use Rattle.machines.specs.Memory.{next_bytes}
 use Rattle.machines.proofs.Lists.{In}
 use Rattle.machines.proofs.Counting.{Lacks, Different, weight, weigh, weigh_all, weigh_different}
 use Rattle.machines.proofs.Classes.{Apart, alike_since}
-use Rattle.machines.proofs.PrefixLaws.{greatest_prefix}
-use Rattle.machines.proofs.CommonOutputs.{same_pairs_true, storable_under, storable_rests}
-use Rattle.machines.proofs.RightAnswers.{class_found, alike_first}
+use Rattle.machines.proofs.CommonOutputs.{same_pairs_true}
+use Rattle.machines.proofs.RightAnswers.{class_found, alike_first, residual_storable}
 use Rattle.machines.proofs.Targets.{bytes_rests}
 
 pub at_left : {A : Type 0} (F O : List A) (q : ℕ) (v : A) → at F q ≡ some v → at (F ++ O) q ≡ some v
@@ -89,9 +88,6 @@ module _ (k : Kind) (laws : Laws k) (P : Pairs k.Ideal) where
   )
 
   module _ (storable : AllStorable k P) where
-    residual_stored : (u : Key) → AllStorable k (residual k P u)
-    residual_stored u = storable_rests k laws _ (under P u) (greatest_prefix laws (under P u)) (storable_under k laws P u storable)
-
     -- the firsts of a list cover it
     pub covered_firsts : (us : List Key) (u : Key) → In u us → Covered (firsts_after k P [] us) u
     covered_firsts us u i = by (alike_first k laws P u [] us i)
@@ -100,4 +96,4 @@ module _ (k : Kind) (laws : Laws k) (P : Pairs k.Ideal) where
         by (inl f) = absurd (both_ways false refl f)
         by (inr t) =
             let c = class_found k laws P (firsts_after k P [] us) u t in
-            record { place = _; element = c.0; there = c.1; same = same_pairs_true k laws (residual k P u) (residual k P c.0) (residual_stored u) (residual_stored c.0) c.2 }
+            record { place = _; element = c.0; there = c.1; same = same_pairs_true k laws (residual k P u) (residual k P c.0) (residual_storable k laws P storable u) (residual_storable k laws P storable c.0) c.2 }

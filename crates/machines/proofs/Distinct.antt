@@ -61,7 +61,7 @@ module _ (k : Kind) (laws : Laws k) where
     state_answers i v e w =
         ap (λ q. answer_from k (minimal k P).states q w) (sym (class_at k P i v e)) ∙ answers k laws P ascending storable w v (first_is_prefix k laws P i v e)
 
-    residual_ascending : (v : Key) → Ascending (residual k P v)
+    pub residual_ascending : (v : Key) → Ascending (residual k P v)
     residual_ascending v = ascending_rests k laws _ (under P v) (ascending_under P v ascending)
 
     pub different : (i j : ℕ) (s : State k.Ideal) → at (minimal k P).states i ≡ some s → at (minimal k P).states j ≡ some s → i ≡ j

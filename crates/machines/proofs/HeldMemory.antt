@@ -46,7 +46,7 @@ prefix_listed u key e = go (past u key) refl e
     go none f g = absurd (both_ways false refl g)
     go (some w) f g = subst (λ x. In u (prefixes x)) (sym (past_some u key w f)) (in_prefixes u w)
 
-not_past : (u key : Key) → is_prefix u key ≡ false → past u key ≡ none
+pub not_past : (u key : Key) → is_prefix u key ≡ false → past u key ≡ none
 not_past u key e = go (past u key) e
   where
     go : (o : Option Key) → is_some o ≡ false → o ≡ none

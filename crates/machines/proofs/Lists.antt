@@ -1,5 +1,5 @@
 -- Membership, places and what holds of each element of a list. Assumes nothing.
-use Rattle.std.proofs.Common.{◌≡◌, ℕ, zero, suc, ◌<◌, ◌⊎◌, List, [], ◌∷◌, map, length, get_or, sym, refl, ap, subst, inl, inr, arith}
+use Rattle.std.proofs.Common.{◌≡◌, ℕ, zero, suc, ◌<◌, ◌⊎◌, List, [], ◌∷◌, ◌++◌, map, length, get_or, sym, refl, ap, subst, inl, inr, arith}
 use mathlib.Core.Option.{Option, some}
 use Rattle.machines.specs.Lists.{at, Each}
 
@@ -11,6 +11,10 @@ In x (y ∷ ys) = (x ≡ y) ⊎ In x ys
 pub each_map : {A : Type 0} (Q S : A → Type 0) (xs : List A) → ((x : A) → Q x → S x) → Each Q xs → Each S xs
 each_map Q S [] f h = tt
 each_map Q S (x ∷ xs) f h = (f x h.0, each_map Q S xs f h.1)
+
+pub each_more : {A : Type 0} (Q : A → Type 0) (xs : List A) (x : A) → Each Q xs → Q x → Each Q (xs ++ (x ∷ []))
+each_more Q [] x h q = (q, tt)
+each_more Q (y ∷ xs) x h q = (h.0, each_more Q xs x h.1 q)
 
 pub each_in : {A : Type 0} (Q : A → Type 0) (xs : List A) (x : A) → Each Q xs → In x xs → Q x
 each_in Q [] x h i = absurd i

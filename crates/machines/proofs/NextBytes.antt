@@ -62,7 +62,7 @@ module _ {A : Type 0} where
   one_more Q a w x = elim (bytes_end Q a w x) [ inl e ↦ omega (arith, ap length e) | inr e ↦ omega (arith, ap length e, length-append (first_bytes Q) (a ∷ [])) ]
 
   -- no byte more where the newest key has the same
-  same_bytes : (Q : Pairs A) (a : ℕ) (v w : Key) (x : A) → newest Q ≡ some (a ∷ v) → first_bytes (Q ++ ((a ∷ w, x) ∷ [])) ≡ first_bytes Q
+  pub same_bytes : (Q : Pairs A) (a : ℕ) (v w : Key) (x : A) → newest Q ≡ some (a ∷ v) → first_bytes (Q ++ ((a ∷ w, x) ∷ [])) ≡ first_bytes Q
   same_bytes [] a v w x e = let o : ◌≡◌ {A = ℕ} 0 1 = cc in absurd (omega arith)
   same_bytes (q ∷ []) a v w x e =
       let o : q.0 ≡ a ∷ v = cc in
@@ -72,7 +72,7 @@ module _ {A : Type 0} where
   same_bytes (q ∷ r ∷ Q) a v w x e =
       ap (λ (l : List ℕ). elim q.0 as (λ y. List ℕ) [ [] ↦ l | b ∷ u ↦ in_front b l ]) (same_bytes (r ∷ Q) a v w x e)
 
-  newest_cons : (p : Key × A) (L : Pairs A) (u : Key) → newest L ≡ some u → newest (p ∷ L) ≡ some u
+  pub newest_cons : (p : Key × A) (L : Pairs A) (u : Key) → newest L ≡ some u → newest (p ∷ L) ≡ some u
   newest_cons p [] u e = let o : ◌≡◌ {A = ℕ} 0 1 = cc in absurd (omega arith)
   newest_cons p (q ∷ L) u e = e
 

@@ -23,6 +23,11 @@ between (a ∷ v) w (b ∷ last) y f g = go (lower_ways a b (v ++ w) last f) (lo
         ap (λ t. is_some (elim t as (λ x. Option Key) [ true ↦ past v last | false ↦ none ])) (eq-eqb a b p.0) ∙ deep p.1 q.1
 
 module _ {A : Type 0} where
+  -- some pairs have a newest key
+  pub newest_some : (p : Key × A) (P : Pairs A) → (w : Key) × (newest (p ∷ P) ≡ some w)
+  newest_some p [] = (p.0, refl)
+  newest_some p (q ∷ P) = newest_some q P
+
   pub newest_end : (P : Pairs A) (e : Key × A) → newest (P ++ (e ∷ [])) ≡ some e.0
   newest_end [] e = refl
   newest_end (p ∷ []) e = refl

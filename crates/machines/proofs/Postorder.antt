@@ -30,28 +30,28 @@ before_is (a ∷ u) (b ∷ v) = go (cases_order a b) (before_is u v)
     go (inr (inl h)) deep = rw (ne_eqb a b (omega arith), ne_eqb b a (omega arith), lt-ltb a b h, past)
     go (inr (inr h)) deep = rw (ne_eqb a b (omega arith), ne_eqb b a (omega arith), le-ltb a b (omega arith), past)
 
-ways : (a b : ℕ) (u v : Key) → before (a ∷ u) (b ∷ v) ≡ true → (a < b) ⊎ ((a ≡ b) × (before u v ≡ true))
-ways a b u v e =
+pub before_ways : (a b : ℕ) (u v : Key) → before (a ∷ u) (b ∷ v) ≡ true → (a < b) ⊎ ((a ≡ b) × (before u v ≡ true))
+before_ways a b u v e =
     elim (or_cases (ltb a b) (eqb a b && before u v) e) [
       | inl l ↦ inl (ltb-true a b l)
       | inr r ↦ let p = and_parts (eqb a b) (before u v) r in inr (eqb-true a b p.0, p.1)
     ]
 
-before_less : (a b : ℕ) (u v : Key) → a < b → before (a ∷ u) (b ∷ v) ≡ true
+pub before_less : (a b : ℕ) (u v : Key) → a < b → before (a ∷ u) (b ∷ v) ≡ true
 before_less a b u v h = or_left (ltb a b) (eqb a b && before u v) (lt-ltb a b h)
 
-before_same : (a b : ℕ) (u v : Key) → a ≡ b → before u v ≡ true → before (a ∷ u) (b ∷ v) ≡ true
+pub before_same : (a b : ℕ) (u v : Key) → a ≡ b → before u v ≡ true → before (a ∷ u) (b ∷ v) ≡ true
 before_same a b u v e l = or_right (ltb a b) (eqb a b && before u v) (and_from (eqb a b) (before u v) (eq-eqb a b e) l)
 
 before_irrefl : (u : Key) → before u u ≡ true → ⊥
 before_irrefl [] e = both_ways false refl e
-before_irrefl (a ∷ u) e = elim (ways a a u u e) [ inl h ↦ omega arith | inr p ↦ before_irrefl u p.1 ]
+before_irrefl (a ∷ u) e = elim (before_ways a a u u e) [ inl h ↦ omega arith | inr p ↦ before_irrefl u p.1 ]
 
 before_trans : (u v w : Key) → before u v ≡ true → before v w ≡ true → before u w ≡ true
 before_trans [] v w e f = absurd (both_ways false refl e)
 before_trans (a ∷ u) [] w e f = absurd (both_ways false refl f)
 before_trans (a ∷ u) (b ∷ v) [] e f = refl
-before_trans (a ∷ u) (b ∷ v) (c ∷ w) e f = go (ways a b u v e) (ways b c v w f) (before_trans u v w)
+before_trans (a ∷ u) (b ∷ v) (c ∷ w) e f = go (before_ways a b u v e) (before_ways b c v w f) (before_trans u v w)
   where
     go : (a < b) ⊎ ((a ≡ b) × (before u v ≡ true)) → (b < c) ⊎ ((b ≡ c) × (before v w ≡ true)) → (before u v ≡ true → before v w ≡ true → before u w ≡ true) → before (a ∷ u) (c ∷ w) ≡ true
     go (inl h) (inl i) deep = before_less a c u w (omega arith)
@@ -96,7 +96,7 @@ prefixes_sorted [] = tt
 prefixes_sorted (p ∷ P) = sorted_put_all (prefixes p.0) (key_prefixes P) (prefixes_sorted P)
 
 -- a longer string comes first
-longer_before : (v w : Key) (a : ℕ) → before (v ++ (a ∷ w)) v ≡ true
+pub longer_before : (v w : Key) (a : ℕ) → before (v ++ (a ∷ w)) v ≡ true
 longer_before [] w a = refl
 longer_before (b ∷ v) w a = before_same b b (v ++ (a ∷ w)) v refl (longer_before v w a)
 

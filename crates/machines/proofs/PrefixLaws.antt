@@ -1,5 +1,5 @@
 -- What the laws give of prefixes, common parts and rests: to put x in front of every output changes no residual. Assumes the laws of a kind.
-use Rattle.std.proofs.Common.{◌≡◌, [], ◌∷◌, sym, refl, ap, ◌∙◌, subst, ap₂}
+use Rattle.std.proofs.Common.{◌≡◌, true, [], ◌∷◌, sym, refl, ap, ◌∙◌, subst, ap₂}
 use Rattle.outputs.specs.Kinds.{Kind, Laws, PrefixOf}
 use Rattle.machines.specs.Keys.{Key}
 use Rattle.machines.specs.Pairs.{Pairs}
@@ -51,6 +51,10 @@ module _ {k : Kind} (laws : Laws k) where
 
   pub rest_joined : (x z : k.Ideal) → PrefixOf k x z → k.join x (k.rest x z) ≡ z
   rest_joined x z p = ap (k.join x) (ap (k.rest x) (sym p.1) ∙ laws.rest_of_join x p.0) ∙ p.1
+
+  -- the rest of a storable output is storable
+  pub rest_storable : (a b : k.Ideal) → PrefixOf k a b → k.storable b ≡ true → k.storable (k.rest a b) ≡ true
+  rest_storable a b p s = (laws.parts_storable a (k.rest a b) (subst (λ z. k.storable z ≡ true) (sym (rest_joined a b p)) s)).1
 
   pub rest_under : (x c z : k.Ideal) → PrefixOf k c z → k.rest (k.join x c) (k.join x z) ≡ k.rest c z
   unfolding prefix_under

@@ -2,6 +2,7 @@
 use Rattle.std.proofs.Common.{◌≡◌, ℕ, zero, suc, ◌+◌, ◌<◌, List, [], ◌∷◌, ◌++◌, length, get_or, sym, refl, ap, ◌∙◌, subst, ap₂, append_assoc, append-nil, arith, length-append}
 use mathlib.Core.Option.{some}
 use lib.ListN.{length-map}
+use Rattle.std.proofs.lemmas.List.{nil_from_length}
 use Rattle.outputs.specs.Kinds.{Kind, Laws}
 use Rattle.machines.specs.Lists.{at, Each}
 use Rattle.machines.specs.Machines.{Arc, State, end_flag, sum_at}
@@ -22,10 +23,6 @@ at_behind : (D : List ℕ) (e : ℕ) (E : List ℕ) → at (D ++ (e ∷ E)) (len
 at_behind [] e E = refl
 at_behind (d ∷ D) e E = at_behind D e E
 
-no_more : (E : List ℕ) → length E ≡ 0 → E ≡ []
-no_more [] h = refl
-no_more (e ∷ E) h = absurd (omega arith)
-
 module _ {A : Type 0} where
   sum_front : (D E : List ℕ) (arcs : List (Arc A)) → Each (λ arc. arc.target < length D) arcs → sum_at (D ++ E) arcs ≡ sum_at D arcs
   sum_front D E [] h = refl
@@ -36,7 +33,7 @@ module _ {A : Type 0} where
       → ((n : ℕ) (s : State A) → at ss n ≡ some s → Each (λ arc. arc.target < length D + n) s.arcs)
       → ((n : ℕ) (s : State A) → at ss n ≡ some s → at (D ++ E) (length D + n) ≡ some (end_flag s.end + sum_at (D ++ E) s.arcs))
       → count_each D ss ≡ D ++ E
-  recounted [] D E l below counted = sym (append-nil D) ∙ ap (λ F. D ++ F) (sym (no_more E l))
+  recounted [] D E l below counted = sym (append-nil D) ∙ ap (λ F. D ++ F) (sym (nil_from_length E l))
   recounted (s ∷ ss) D [] l below counted = absurd (omega arith)
   recounted (s ∷ ss) D (e ∷ E) l below counted =
       ap (λ c. count_each (D ++ (c ∷ [])) ss) (sym first)

@@ -67,16 +67,16 @@ module _ (k : Kind) (laws : Laws k) where
         go false e (inl f) deep = absurd (both_ways (eqb b a) e (eq-eqb b a (sym f)))
         go false e (inr j) deep = deep j
 
-    module _ (ascending : Ascending P) (storable : AllStorable k P) where
-      pub residual_storable : (u : Key) → AllStorable k (residual k P u)
-      residual_storable u = storable_rests k laws (greatest_common k P u) (under P u) (greatest_prefix laws (under P u)) (storable_under k laws P u storable)
+    pub residual_storable : AllStorable k P → (u : Key) → AllStorable k (residual k P u)
+    residual_storable storable u = storable_rests k laws (greatest_common k P u) (under P u) (greatest_prefix laws (under P u)) (storable_under k laws P u storable)
 
+    module _ (ascending : Ascending P) (storable : AllStorable k P) where
       -- the class of a prefix is that of a first prefix with the same residual
       pub class_first : (u : Key) → KeyPrefix P u → (v : Key) × (at (first_prefixes k P) (class_in k P (first_prefixes k P) u) ≡ some v) × (residual k P u ≡ residual k P v)
       class_first u s =
           let any : any_alike k P u (first_prefixes k P) ≡ true = elim (alike_first u [] (key_prefixes P) (in_key_prefixes P u s.0 s.1 s.2)) [ inl f ↦ absurd (both_ways false refl f) | inr t ↦ t ] in
           let c = class_found (first_prefixes k P) u any in
-          (c.0, c.1, same_pairs_true k laws (residual k P u) (residual k P c.0) (residual_storable u) (residual_storable c.0) c.2)
+          (c.0, c.1, same_pairs_true k laws (residual k P u) (residual k P c.0) (residual_storable storable u) (residual_storable storable c.0) c.2)
 
       pub class_of : (u : Key) → KeyPrefix P u → (v : Key) × (at (minimal k P).states (class_in k P (first_prefixes k P) u) ≡ some (state_of k P (first_prefixes k P) v)) × (residual k P u ≡ residual k P v)
       class_of u s =

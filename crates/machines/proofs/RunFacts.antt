@@ -75,11 +75,11 @@ module _ (k : Kind) (S A : ℕ) where
       go false false true f = let o : ◌≡◌ {A = ℕ} 0 1 = cc in absurd (omega arith)
       go false false false f = (refl, refl, refl)
 
-module _ (k : Kind) where
-  is_true : (b : Bool) → not b ≡ false → b ≡ true
-  is_true true e = refl
-  is_true false e = sym e
+pub is_true : (b : Bool) → not b ≡ false → b ≡ true
+is_true true e = refl
+is_true false e = sym e
 
+module _ (k : Kind) where
   -- a key above the newest goes to the end
   ascending_end : (P : Pairs k.Ideal) (e : Key × k.Ideal) → Ascending P → not_above P e.0 ≡ false → Ascending (P ++ (e ∷ []))
   ascending_end [] e h f = (tt, tt)

@@ -6,18 +6,11 @@ use Rattle.machines.specs.Keys.{Key, lower}
 use Rattle.machines.specs.Machines.{count_arcs}
 use Rattle.machines.specs.Pairs.{Pairs, Ascending, AllStorable}
 use Rattle.machines.specs.Minimal.{minimal}
-use Rattle.machines.specs.Memory.{newest, not_above, held_states, held_arcs, growth, refusal}
+use Rattle.machines.specs.Memory.{not_above, held_states, held_arcs, growth, refusal}
 use Rattle.machines.specs.Runs.{put_unless, taken}
-use Rattle.machines.proofs.RunFacts.{ascending_put, storable_put}
+use Rattle.machines.proofs.OneMore.{newest_some}
+use Rattle.machines.proofs.RunFacts.{is_true, ascending_put, storable_put}
 use Rattle.machines.proofs.HeldMemory.{held_enough, held_grows, held_first}
-
-newest_there : {A : Type 0} (p : Key × A) (P : Pairs A) → (last : Key) × (newest (p ∷ P) ≡ some last)
-newest_there p [] = (p.0, refl)
-newest_there p (q ∷ P) = newest_there q P
-
-is_true : (b : Bool) → not b ≡ false → b ≡ true
-is_true true e = refl
-is_true false e = sym e
 
 module _ (k : Kind) (laws : Laws k) (S A : ℕ) where
   -- a key that is taken is above the newest, and has room
@@ -47,7 +40,7 @@ module _ (k : Kind) (laws : Laws k) (S A : ℕ) where
       inr (omega (arith, g.0, ltb-false S _ r.1), omega (arith, g.1, ltb-false A _ r.2))
   room_end (p ∷ P) e f a s h =
       let r = roomy (p ∷ P) e.0 f in
-      let n = newest_there p P in
+      let n = newest_some p P in
       let above : lower n.0 e.0 ≡ true
       = is_true (lower n.0 e.0) (sym (ap (λ (o : Option Key). elim o as (λ x. Bool) [ none ↦ false | some last ↦ not (lower last e.0) ]) n.1) ∙ r.0) in
       let g = held_grows k laws (p ∷ P) e n.0 n.1 a above s in
@@ -69,7 +62,7 @@ module _ (k : Kind) (laws : Laws k) (S A : ℕ) where
   enough [] s h = (omega arith, omega arith)
   enough (p ∷ P) s (inl e) = let z : ◌≡◌ {A = ℕ} 0 1 = cc in absurd (omega arith)
   enough (p ∷ P) s (inr h) =
-      let n = newest_there p P in
+      let n = newest_some p P in
       let g = held_enough k laws (p ∷ P) n.0 n.1 s in
       (omega (arith, g.0, h.0), omega (arith, g.1, h.1))
 

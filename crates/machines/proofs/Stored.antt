@@ -2,7 +2,7 @@
 use Rattle.std.proofs.Common.{◌≡◌, ℕ, suc, ◌+◌, ◌<◌, ◌≤◌, true, List, [], ◌∷◌, ◌++◌, length, sym, refl, ap, ◌∙◌, subst, append_assoc, append-nil, arith}
 use mathlib.Core.Option.{Option, none, some}
 use lib.ListN.{length-map}
-use Rattle.outputs.specs.Kinds.{Kind, Laws, PrefixOf}
+use Rattle.outputs.specs.Kinds.{Kind, Laws}
 use Rattle.machines.specs.Lists.{at, Each}
 use Rattle.machines.specs.Keys.{Key, past}
 use Rattle.machines.specs.Machines.{Arc, State, end_flag, sum_at}
@@ -12,11 +12,10 @@ use Rattle.machines.specs.Minimal.{rest_some, end_of, state_of, minimal, key_cou
 use Rattle.machines.specs.Numbering.{Rising}
 use Rattle.machines.specs.Storing.{StoringState, Storing}
 use Rattle.machines.proofs.Lists.{In, each_in, at_in, at_unmap}
-use Rattle.machines.proofs.PrefixLaws.{rest_joined}
+use Rattle.machines.proofs.PrefixLaws.{greatest_prefix, rest_storable}
 use Rattle.machines.proofs.Under.{under_found}
 use Rattle.machines.proofs.RightAnswers.{common_grows}
 use Rattle.machines.proofs.CommonOutputs.{found_prefixed}
-use Rattle.machines.proofs.PrefixLaws.{greatest_prefix}
 use Rattle.machines.proofs.Walks.{common_storable, storable_found}
 use Rattle.machines.proofs.Targets.{state_first, next_prefix, each_arc, arcs_rise, on_bytes}
 use Rattle.machines.proofs.AcceptedKeys.{state_counted, count_some}
@@ -41,7 +40,7 @@ module _ {A : Type 0} where
   some_sum ns [] flag h = h
   some_sum ns (arc ∷ arcs) flag h = omega arith
 
-  under_within : (P : Pairs A) (u : Key) → length (under P u) ≤ length P
+  pub under_within : (P : Pairs A) (u : Key) → length (under P u) ≤ length P
   under_within [] u = omega arith
   under_within (p ∷ P) u = go (past u p.0) (under_within P u)
     where
@@ -50,10 +49,6 @@ module _ {A : Type 0} where
       go (some w) h = omega arith
 
 module _ (k : Kind) (laws : Laws k) (P : Pairs k.Ideal) (ascending : Ascending P) (bytes : ByteKeys P) (storable : AllStorable k P) where
-  -- what follows a prefix in a storable output is storable
-  rest_storable : (c z : k.Ideal) → PrefixOf k c z → k.storable z ≡ true → k.storable (k.rest c z) ≡ true
-  rest_storable c z b s = (laws.parts_storable c (k.rest c z) (subst (λ x. k.storable x ≡ true) (sym (rest_joined laws c z b)) s)).1
-
   end_storable : (v : Key) (x : k.Ideal) → end_of k P v ≡ some x → k.storable x ≡ true
   end_storable v x e = go (output_of P v) refl e
     where
@@ -62,14 +57,14 @@ module _ (k : Kind) (laws : Laws k) (P : Pairs k.Ideal) (ascending : Ascending P
       go (some z) f g =
           let o : k.rest (greatest_common k P v) z ≡ x = cc in
           subst (λ y. k.storable y ≡ true) o
-          (rest_storable (greatest_common k P v) z
+          (rest_storable laws (greatest_common k P v) z
           (found_prefixed k laws (greatest_common k P v) (under P v) [] z (greatest_prefix laws (under P v)) (under_found P v [] ∙ ap (output_of P) (append-nil v) ∙ f))
           (storable_found k laws P ascending storable P v z storable f))
 
   arc_storable : (v : Key) (a : ℕ) → In a (first_bytes (under P v)) → k.storable (k.rest (greatest_common k P v) (greatest_common k P (v ++ (a ∷ [])))) ≡ true
   arc_storable v a i =
       let s = next_prefix k laws P v a i in
-      rest_storable (greatest_common k P v) (greatest_common k P (v ++ (a ∷ [])))
+      rest_storable laws (greatest_common k P v) (greatest_common k P (v ++ (a ∷ [])))
       (common_grows k laws P ascending storable v a (s.0, s.1, under_found P v (a ∷ s.0) ∙ ap (output_of P) (sym (append_assoc v (a ∷ []) s.0)) ∙ s.2))
       (common_storable k laws P ascending storable (v ++ (a ∷ [])) s)
 

@@ -92,7 +92,7 @@ module _ (k : Kind) (laws : Laws k) (P : Pairs k.Ideal) where
       (each_arc (λ arc. arc.target < i) (first_prefixes k P) c.0 (first_bytes (under P c.0))
       (λ a j. let n = next_prefix c.0 a j in target_below k P i c.0 a c.1 (in_key_prefixes P (c.0 ++ (a ∷ [])) n.0 n.1 n.2)))
 
-  rising_arcs : (cs : List Key) (u : Key) (bs : List ℕ) → RisingBytes bs → Rising (arcs_of k P cs u bs)
+  pub rising_arcs : (cs : List Key) (u : Key) (bs : List ℕ) → RisingBytes bs → Rising (arcs_of k P cs u bs)
   rising_arcs cs u [] h = tt
   rising_arcs cs u (b ∷ bs) h = (over bs h.0, rising_arcs cs u bs h.1)
     where

@@ -1,12 +1,12 @@
 -- The code of texts, and the laws of texts. Assumes nothing.
-use Rattle.std.specs.Prelude.{◌≡◌, ℕ, zero, suc, ◌+◌, ◌-◌, ◌*◌, ◌^◌, ◌<◌, ◌≤◌, Bool, true, false, cond, ◌&&◌, List, [], ◌∷◌, ◌++◌, length, take, drop, replicate, ◌≢◌, nat_le, nat_lt, refl}
-use Rattle.std.proofs.Common.{sym, ap, ap₂, ◌∙◌, subst, arith, lit<, lit≤, length-append, leb-true, leb-false, le-leb, lt-ltb, ltb-true}
+use Rattle.std.specs.Prelude.{◌≡◌, ℕ, zero, suc, ◌+◌, ◌-◌, ◌*◌, ◌^◌, ◌<◌, ◌≤◌, Bool, true, false, cond, List, [], ◌∷◌, ◌++◌, length, take, drop, replicate, ◌≢◌, nat_le, nat_lt, refl}
+use Rattle.std.proofs.Common.{sym, ap, ap₂, ◌∙◌, subst, arith, lit<, length-append, leb-true, leb-false, lt-ltb, ltb-true}
 use mathlib.Core.List.{append_assoc, append-nil, append_cancel_left, append-eq-nil_iff, is_set}
 use Rattle.std.proofs.Math.Nat.{ℕ_set}
-use Rattle.std.proofs.lemmas.List.{length-replicate}
+use Rattle.std.proofs.lemmas.List.{length-replicate, nil_from_length}
 use Rattle.std.proofs.lemmas.Bool.{cond-true, and_parts, and_from, both_ways}
-use Rattle.outputs.specs.Bits.{bits, bits_before, bit, value, value_on, spread}
-use Rattle.outputs.specs.Kinds.{Laws, Reading, got, begun, no_code, and_then, read_field}
+use Rattle.outputs.specs.Bits.{bits, bit, value, value_on, spread}
+use Rattle.outputs.specs.Kinds.{Laws, Reading, got, begun, no_code, read_field}
 use Rattle.outputs.specs.Texts.{texts, all_bytes, read_upto, read_bytes, read_text}
 use Rattle.outputs.specs.BitRows.{length_bits, value_bits, bits_value, field_code, field_got, field_begun, field_not_no}
 use Rattle.outputs.specs.Codes.{Coded, in_turn}
@@ -27,7 +27,7 @@ field_short w bs = go (nat_lt (length bs) w) refl
     go true e r = ltb-true (length bs) w e
     go false e r = let z : ◌≡◌ {A = ℕ} 0 1 = cc in absurd (omega arith)
 
-value_on_append : (a : ℕ) (bs t : List Bool) → value_on a (bs ++ t) ≡ value_on (value_on a bs) t
+pub value_on_append : (a : ℕ) (bs t : List Bool) → value_on a (bs ++ t) ≡ value_on (value_on a bs) t
 value_on_append a [] t = refl
 value_on_append a (b ∷ bs) t = value_on_append (2 * a + bit b) bs t
 
@@ -128,13 +128,9 @@ zeros : (n : ℕ) → (x : List ℕ) × Bytes n x
 zeros zero = ([], (refl, refl))
 zeros (suc n) = let z = zeros n in (0 ∷ z.0, (ap suc z.1.0, z.1.1))
 
-no_bytes : (x : List ℕ) → length x ≡ 0 → x ≡ []
-no_bytes [] e = refl
-no_bytes (a ∷ x) e = absurd (omega arith)
-
 pub bytes_coded : (n : ℕ) → Coded (Bytes n) spread (read_bytes n)
 bytes_coded zero = record {
-  on_code = λ x g more. ap (λ y. got y (spread x ++ more)) (sym (no_bytes x g.0)) ∙ ap (λ y. got x (spread y ++ more)) (no_bytes x g.0);
+  on_code = λ x g more. ap (λ y. got y (spread x ++ more)) (sym (nil_from_length x g.0)) ∙ ap (λ y. got x (spread y ++ more)) (nil_from_length x g.0);
   if_got = λ bs x more e. let ex : [] ≡ x = cc in let em : bs ≡ more = cc in (subst (Bytes 0) ex (refl, refl), em ∙ ap (λ y. spread y ++ more) ex);
   if_begun = λ bs e. let z : ◌≡◌ {A = ℕ} 0 1 = cc in absurd (omega arith);
   if_no_code = λ bs e x g more s. let z : ◌≡◌ {A = ℕ} 0 1 = cc in absurd (omega arith);
@@ -157,6 +153,10 @@ text_coded =
 pub length_spread : (x : List ℕ) → length (spread x) ≡ 8 * length x
 length_spread [] = refl
 length_spread (a ∷ x) = omega (arith, length-append (bits 8 a) (spread x), length_bits 8 a, length_spread x)
+
+pub spread_append : (x y : List ℕ) → spread (x ++ y) ≡ spread x ++ spread y
+spread_append [] y = refl
+spread_append (a ∷ x) y = ap (λ l. bits 8 a ++ l) (spread_append x y) ∙ sym (append_assoc (bits 8 a) (spread x) (spread y))
 
 pub texts_lawful : Laws texts
 texts_lawful = record {

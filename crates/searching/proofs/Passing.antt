@@ -6,6 +6,7 @@ use Rattle.machines.specs.Lists.{at, Each}
 use Rattle.machines.specs.Keys.{Key}
 use Rattle.machines.specs.Machines.{Arc, State, arc_on, answer_from}
 use Rattle.machines.specs.Numbering.{Rising}
+use Rattle.machines.proofs.Lists.{each_more}
 use Rattle.lookups.specs.declared.rows.Arc as Code
 use Rattle.lookups.specs.declared.rows.Row.{Row}
 use Rattle.lookups.specs.declared.states.Opened.{Opened}
@@ -21,10 +22,6 @@ is_opened k all (some s) opened h = (s, refl, h)
 pub not_opened : (k : Kind) (all : List Bool) (o : Option (State k.Ideal)) → Opens k all o None → o ≡ none
 not_opened k all none h = refl
 not_opened k all (some s) h = absurd h
-
-each_one_more : {A : Type 0} (Q : A → Type 0) (xs : List A) (x : A) → Each Q xs → Q x → Each Q (xs ++ (x ∷ []))
-each_one_more Q [] x h q = (q, tt)
-each_one_more Q (y ∷ xs) x h q = (h.0, each_one_more Q xs x h.1 q)
 
 -- i arcs of a state are passed, and none of them leads to a string with the output x; the others stand in a row
 pub record Passed (k : Kind) (all : List Bool) (states : List (State k.Ideal)) (arcs : List (Arc k.Ideal)) (x : k.Ideal) (d i : ℕ) (row : Row) : Type 0 where
@@ -81,7 +78,7 @@ module _ {O : Type 0} (k : Kind) (laws : Laws k) (meaning : O → k.Ideal) (all 
               more = first.behind;
               split = p.split ∙ ap (λ (z : List (Arc k.Ideal)). p.done ++ z) first.split ∙ sym (append_assoc p.done (first.arc ∷ []) first.behind);
               many = length-append p.done (first.arc ∷ []) ∙ omega (arith, p.many);
-              fruitless = each_one_more (Fruitless k states x d) p.done first.arc p.fruitless f;
+              fruitless = each_more (Fruitless k states x d) p.done first.arc p.fruitless f;
               stands = first.stands;
             }
 

@@ -8,6 +8,7 @@ use Rattle.machines.specs.Keys.{Key}
 use Rattle.machines.specs.Machines.{Arc, State, arc_on, arc_at, end_at, join_some, answer_from}
 use Rattle.machines.specs.Numbering.{Rising}
 use Rattle.machines.proofs.Lists.{In, each_in}
+use Rattle.machines.proofs.Under.{prefix_some}
 use Rattle.searching.specs.Searches.{Nowhere}
 
 -- the arc on a byte is one of the arcs
@@ -44,14 +45,10 @@ module _ (k : Kind) (laws : Laws k) where
       let g : k.join x t ≡ z = cc in
       ap {A = k.Ideal} {B = Option k.Ideal} (λ v. some v) (laws.left_cancel x t y (g ∙ sym e))
 
-  pub joined_prefix : (x z : k.Ideal) (o : Option k.Ideal) → join_some k x o ≡ some z → PrefixOf k x z
-  joined_prefix x z none f = let o : ◌≡◌ {A = ℕ} 0 1 = cc in absurd (omega arith)
-  joined_prefix x z (some t) f = let g : k.join x t ≡ z = cc in (t, g)
-
   module _ (states : List (State k.Ideal)) where
     -- an arc whose output is no prefix, and one behind which nothing is found
     pub no_prefix_fruitless : (x : k.Ideal) (d : ℕ) (arc : Arc k.Ideal) → (PrefixOf k arc.output x → ⊥) → Fruitless k states x d arc
-    no_prefix_fruitless x d arc n w l e = n (joined_prefix arc.output x (answer_from k states arc.target w) e)
+    no_prefix_fruitless x d arc n w l e = n (prefix_some k laws arc.output x (answer_from k states arc.target w) e)
 
     pub left_fruitless : (x y : k.Ideal) (d : ℕ) (arc : Arc k.Ideal) → k.join arc.output y ≡ x → Nowhere k states arc.target y (d + 1) → Fruitless k states x d arc
     left_fruitless x y d arc e n w l f = n w l (joined_behind arc.output y x (answer_from k states arc.target w) e f)

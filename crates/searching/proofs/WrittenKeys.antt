@@ -6,11 +6,12 @@ use Rattle.machines.specs.Machines.{Machine, join_some, answer_from}
 use Rattle.machines.specs.Pairs.{Pairs, Proper}
 use Rattle.machines.specs.Minimal.{minimal}
 use Rattle.machines.proofs.Theorems.{right_readings}
+use Rattle.machines.proofs.Under.{prefix_some}
 use Rattle.loading.specs.declared.held.Loaded.{Loaded}
 use Rattle.loading.specs.Loading.{Holds}
 use Rattle.lookups.proofs.HeldStates.{held_stored}
 use Rattle.searching.specs.Searches.{Left, Sought, KeyWritten, KeyOf}
-use Rattle.searching.proofs.Strings.{joined_behind, joined_prefix}
+use Rattle.searching.proofs.Strings.{joined_behind}
 use Rattle.searching.proofs.Lengths.{answered_short}
 
 module _ {O S : Type 0} (k : Kind) (laws : Laws k) (meaning : O → k.Ideal) (bytes : S → List ℕ) (loaded : Loaded O S) (x : k.Ideal) (first : O) (same : first ≡ loaded.start_output) where
@@ -22,7 +23,7 @@ module _ {O S : Type 0} (k : Kind) (laws : Laws k) (meaning : O → k.Ideal) (by
   pub no_key : (b : List ℕ) (r : Option ℕ) → r ≡ None → Left k meaning (meaning first) x None → KeyWritten k (Holds k meaning bytes loaded) x b b r
   no_key b r e n = subst (KeyWritten k (Holds k meaning bytes loaded) x b b) (sym e) (
     refl,
-    λ m h w f. n (subst (λ (z : k.Ideal). PrefixOf k z x) (begins m h) (joined_prefix k laws m.start_output x (answer_from k m.states m.start w) f)),
+    λ m h w f. n (subst (λ (z : k.Ideal). PrefixOf k z x) (begins m h) (prefix_some k laws m.start_output x (answer_from k m.states m.start w) f)),
   )
 
   module _ (y : O) (left : Left k meaning (meaning first) x (Some y)) (q : ℕ) (start : q ≡ loaded.start) where
