@@ -1,8 +1,8 @@
 -- What a kind reads off the bits of a source, from what the source's fields answer. Assumes nothing.
-use Rattle.std.proofs.Common.{◌≡◌, ℕ, ◌+◌, ◌<◌, ◌≤◌, Bool, ltb, List, length, take, drop, Result, sym, refl, subst, arith, length-drop, le-ltb, lt-ltb}
+use Rattle.std.proofs.Common.{◌≡◌, ℕ, ◌+◌, ◌<◌, ◌≤◌, Bool, ltb, List, length, take, drop, Result, sym, subst, arith, length-drop, le-ltb, lt-ltb}
 use Rattle.std.proofs.lemmas.Bool.{cond-true, cond-false}
 use Rattle.outputs.specs.Bits.{value}
-use Rattle.outputs.specs.Kinds.{Kind, Reading, got, begun, no_code, read_field}
+use Rattle.outputs.specs.Kinds.{Kind, Reading, got, begun, read_field}
 use Rattle.outputs.specs.Joins.{Read}
 use Rattle.outputs.specs.declared.source.Unread.{Unread}
 

@@ -1,9 +1,9 @@
 -- Reading a text in steps, its length and then its bytes, is reading a text. Assumes nothing.
-use Rattle.std.proofs.Common.{◌≡◌, ℕ, zero, suc, ◌+◌, ◌-◌, ◌*◌, ◌^◌, ◌<◌, ◌≤◌, Bool, true, false, cond, ltb, leb, ◌⊎◌, List, [], ◌∷◌, ◌++◌, length, take, drop, replicate, sym, refl, ap, ◌∙◌, subst, ap₂, inl, inr, arith, length-append, length-drop, le-ltb, lt-ltb, le-leb, leb-false, leb-true}
+use Rattle.std.proofs.Common.{◌≡◌, ℕ, zero, suc, ◌+◌, ◌*◌, ◌<◌, ◌≤◌, Bool, true, false, cond, ltb, leb, ◌⊎◌, List, [], ◌∷◌, ◌++◌, length, take, drop, sym, refl, ap, ◌∙◌, inl, inr, arith, length-append, length-drop, le-ltb, lt-ltb, le-leb}
 use borrow.Author.Tests.{lt-leb}
 use Rattle.std.proofs.lemmas.Bool.{cond-true, cond-false, cases_lt}
-use Rattle.std.proofs.lemmas.List.{drop-drop, take_all}
-use Rattle.outputs.specs.Bits.{bits, value, value_on, spread}
+use Rattle.std.proofs.lemmas.List.{drop-drop}
+use Rattle.outputs.specs.Bits.{bits, value, spread}
 use Rattle.outputs.specs.Kinds.{Reading, got, begun, no_code, and_then, read_field}
 use Rattle.outputs.specs.Texts.{texts, read_upto, read_bytes, read_text, longest}
 use Rattle.outputs.specs.TextReading.{octets, least_length}

@@ -1,11 +1,11 @@
 -- A number and its bits at a width: both round trips, and reading a field. Assumes nothing.
 use Rattle.std.specs.Prelude.{◌≡◌, ℕ, zero, suc, ◌+◌, ◌-◌, ◌*◌, ◌/◌, ◌%◌, ◌^◌, ◌<◌, ◌≤◌, Bool, true, false, cond, List, [], ◌∷◌, ◌++◌, length, take, drop, replicate, ◌==◌, ◌≢◌, nat_lt, refl}
-use Rattle.std.proofs.Common.{sym, ap, ap₂, subst, ◌∙◌, append_assoc, append-nil, add-suc, suc-add, zero-add, add-zero, arith, lit<, length-append, take-append-drop, length-take, length-drop, length-take-le, take_at, drop_at, eqb-true, eq-eqb, ne_eqb, le-ltb, ltb-true, ltb-false, lt-ltb}
+use Rattle.std.proofs.Common.{sym, ap, ap₂, subst, ◌∙◌, append-nil, add-suc, suc-add, zero-add, add-zero, arith, lit<, length-append, take-append-drop, length-take-le, take_at, drop_at, eqb-true, eq-eqb, ne_eqb, le-ltb, ltb-true, ltb-false, lt-ltb}
 use Rattle.std.proofs.Math.Nat.{pow-succ'}
 use Rattle.std.proofs.lemmas.Bool.{cond-false, eqb-false}
 use Rattle.std.proofs.lemmas.List.{length-replicate}
 use Rattle.outputs.specs.Bits.{bits, bits_before, bit, value, value_on}
-use Rattle.outputs.specs.Kinds.{Reading, got, begun, no_code, read_field}
+use Rattle.outputs.specs.Kinds.{got, begun, no_code, read_field}
 
 pub bits_before_append : (w n : ℕ) (s t : List Bool) → bits_before w n (s ++ t) ≡ bits_before w n s ++ t
 bits_before_append zero n s t = refl

@@ -1,5 +1,5 @@
 -- What the calls on outputs answer, by what outputs mean. Assumes nothing.
-use Rattle.std.specs.Prelude.{◌≡◌, ℕ, ◌+◌, ◌^◌, ◌<◌, Bool, true, false, cond, List, length, Ok, Err, Result, ◌≢◌}
+use Rattle.std.specs.Prelude.{◌≡◌, ℕ, ◌+◌, ◌^◌, ◌<◌, Bool, true, false, cond, length, Ok, Err, Result, ◌≢◌}
 use Rattle.outputs.specs.Kinds.{Kind, Reading, got, begun, no_code}
 use Rattle.outputs.specs.declared.source.Unread.{Unread}
 use Rattle.outputs.specs.declared.source.Unread.TheVariants.{Cut, NoCode}

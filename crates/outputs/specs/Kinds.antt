@@ -1,5 +1,5 @@
 -- What an output kind is: its ideal outputs, what is asked of them, and the laws that a kind shows. Assumes nothing.
-use Rattle.std.specs.Prelude.{◌≡◌, ℕ, ◌<◌, ◌≤◌, Bool, true, cond, List, [], ◌∷◌, ◌++◌, length, take, drop, ◌≢◌, nat_lt}
+use Rattle.std.specs.Prelude.{◌≡◌, ℕ, ◌<◌, ◌≤◌, Bool, true, cond, List, ◌++◌, length, take, drop, ◌≢◌, nat_lt}
 use Rattle.outputs.specs.Bits.{same_bits, value}
 
 -- What reading an output off some bits gives: the output and the bits behind its code; or these bits only begin a code; or they hold no code and begin none.

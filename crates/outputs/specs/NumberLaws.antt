@@ -1,10 +1,9 @@
 -- The laws of numbers. Assumes nothing.
-use Rattle.std.specs.Prelude.{◌≡◌, ℕ, ◌+◌, ◌-◌, ◌^◌, ◌<◌, min, Bool, true, false, List, length, refl}
-use Rattle.std.proofs.Common.{sym, ap, ◌∙◌, arith, lit<, lit≤, inl, inr, ltb-true, lt-ltb}
+use Rattle.std.specs.Prelude.{◌+◌, ◌-◌, ◌^◌, ◌<◌, min, refl}
+use Rattle.std.proofs.Common.{arith, lit<, inl, inr, ltb-true, lt-ltb}
 use Rattle.std.proofs.Math.Nat.{ℕ_set}
 use Rattle.std.proofs.lemmas.Bool.{cases_lt}
-use Rattle.outputs.specs.Bits.{bits}
-use Rattle.outputs.specs.Kinds.{Laws, PrefixOf}
+use Rattle.outputs.specs.Kinds.{Laws}
 use Rattle.outputs.specs.Numbers.{numbers}
 use Rattle.outputs.specs.BitRows.{length_bits, field_code, field_got, field_begun, field_not_no}
 

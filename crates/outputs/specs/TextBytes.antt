@@ -1,9 +1,9 @@
 -- Bytes of a text in an array: what is written over them, and how far two strings agree. Assumes nothing.
-use Rattle.std.specs.Prelude.{◌≡◌, ℕ, zero, suc, ◌+◌, ◌-◌, ◌<◌, ◌≤◌, Bool, true, false, cond, ◌&&◌, leb, List, [], ◌∷◌, ◌++◌, length, take, drop, ◌==◌, ◌≢◌, nat_eq, nat_le, nat_lt, slice_index, slice_set, refl}
-use Rattle.std.proofs.Common.{sym, ap, ap₂, ◌∙◌, subst, append_assoc, append-nil, arith, add_assoc, add-zero, length-append, length-take-le, lt-ltb, eq-eqb, ne_eqb, eqb-true}
+use Rattle.std.specs.Prelude.{◌≡◌, ℕ, zero, suc, ◌+◌, ◌<◌, ◌≤◌, Bool, true, false, cond, ◌&&◌, leb, List, [], ◌∷◌, ◌++◌, length, take, drop, ◌==◌, ◌≢◌, nat_eq, nat_le, nat_lt, slice_index, slice_set, refl}
+use Rattle.std.proofs.Common.{sym, ap, ap₂, ◌∙◌, append_assoc, append-nil, arith, add_assoc, length-append, length-take-le, lt-ltb, eq-eqb, ne_eqb, eqb-true}
 use Rattle.std.proofs.lemmas.Bool.{and_parts, and_from, cond-true, cond-false, eqb-false}
 use Rattle.std.proofs.lemmas.List.{take_more, take_more_set, drop_more, drop_all, take_all, nil_from_length}
-use Rattle.outputs.specs.Texts.{texts, all_bytes, shared, after, longest}
+use Rattle.outputs.specs.Texts.{texts, all_bytes, shared, after}
 use Rattle.outputs.specs.Bits.{bits, spread}
 use Rattle.outputs.specs.Joins.{Tells}
 use Rattle.outputs.specs.TextParts.{shared_right}

@@ -1,10 +1,8 @@
 -- Texts as lists: common prefixes, rests, and parts of a join. Assumes nothing.
-use Rattle.std.specs.Prelude.{◌≡◌, ℕ, zero, suc, ◌+◌, ◌-◌, ◌<◌, ◌≤◌, Bool, true, false, cond, ◌&&◌, ◌⊎◌, List, [], ◌∷◌, ◌++◌, length, ◌==◌, nat_le, nat_lt, refl}
-use Rattle.std.proofs.Common.{sym, ap, ap₂, ◌∙◌, subst, inl, inr, arith, length-append, eqb-true, eq-eqb, leb-true, le-leb}
-use mathlib.Core.List.{append_assoc, append-nil, append_cancel_left, append-eq-nil_iff, is_set}
-use Rattle.std.proofs.Math.Nat.{ℕ_set}
-use Rattle.std.proofs.lemmas.Bool.{and_parts, and_from, cond-true, cond-false, eqb-false}
-use Rattle.outputs.specs.Kinds.{Kind, PrefixOf}
+use Rattle.std.specs.Prelude.{◌≡◌, ℕ, ◌≤◌, Bool, true, false, cond, List, [], ◌∷◌, ◌++◌, length, ◌==◌, nat_le, nat_lt, refl}
+use Rattle.std.proofs.Common.{sym, ap, ap₂, ◌∙◌, arith, length-append, eqb-true, eq-eqb, leb-true, le-leb}
+use Rattle.std.proofs.lemmas.Bool.{and_parts, and_from, cond-true}
+use Rattle.outputs.specs.Kinds.{PrefixOf}
 use Rattle.outputs.specs.Texts.{texts, shared, after, all_bytes}
 
 -- of two lists with equal heads

@@ -1,7 +1,7 @@
 -- The steps of reading a text: its length, then its bytes. Assumes nothing.
 use Rattle.std.specs.Prelude.{◌≡◌, ℕ, zero, suc, ◌+◌, ◌-◌, ◌*◌, ◌^◌, ◌<◌, ◌≤◌, Bool, true, false, List, [], ◌∷◌, ◌++◌, length, take, drop, replicate, Ok, Err, Result}
 use Rattle.outputs.specs.Bits.{value}
-use Rattle.outputs.specs.Kinds.{Reading, got, begun, no_code}
+use Rattle.outputs.specs.Kinds.{got, begun, no_code}
 use Rattle.outputs.specs.Texts.{all_bytes, longest, read_upto}
 use Rattle.outputs.specs.declared.source.Unread.{Unread}
 use Rattle.outputs.specs.declared.source.Unread.TheVariants.{Cut, NoCode}

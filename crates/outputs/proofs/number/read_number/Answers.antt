@@ -1,5 +1,5 @@
 -- Thirty-two bits that are there are a number; fewer only begin one.
-use Rattle.std.proofs.Common.{◌+◌, sym, refl, ap, ◌∙◌, arith, lit<}
+use Rattle.std.proofs.Common.{◌+◌, sym, refl, ap, arith, lit<}
 use Rattle.std.proofs.lemmas.Result.{err_from_is_err_and}
 use Rattle.outputs.specs.Numbers.{numbers}
 use Rattle.outputs.specs.BitRows.{length_bits}

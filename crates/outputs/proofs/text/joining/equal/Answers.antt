@@ -1,4 +1,4 @@
-use Rattle.std.proofs.Common.{◌≡◌, true, false, eqb, length, take, sym, ap, ◌∙◌, subst, ap₂, arith, length-take-le, ne_eqb}
+use Rattle.std.proofs.Common.{◌≡◌, eqb, length, take, sym, ap, ◌∙◌, subst, ap₂, arith, length-take-le, ne_eqb}
 use Rattle.outputs.specs.Texts.{shared}
 use Rattle.outputs.specs.Joins.{Tells}
 use Rattle.outputs.specs.declared.text.Text.{Text}

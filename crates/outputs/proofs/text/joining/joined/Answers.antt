@@ -1,4 +1,4 @@
-use Rattle.std.proofs.Common.{◌≡◌, ◌+◌, true, false, leb, ◌++◌, length, take, sym, ap, ◌∙◌, ap₂, arith, length-take-le, le-leb}
+use Rattle.std.proofs.Common.{◌≡◌, ◌+◌, leb, ◌++◌, length, take, sym, ap, ◌∙◌, arith, length-take-le, le-leb}
 use borrow.Author.Tests.{lt-leb}
 use Rattle.std.proofs.lemmas.Bool.{cond-true, cond-false}
 use Rattle.outputs.specs.Texts.{texts}

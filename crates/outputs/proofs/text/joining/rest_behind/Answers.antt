@@ -1,6 +1,6 @@
-use Rattle.std.proofs.Common.{◌≡◌, ◌+◌, ◌-◌, ◌<◌, ◌≤◌, ◌++◌, length, take, drop, sym, ap, ◌∙◌, subst, ap₂, zero-add, arith, length-take-le}
+use Rattle.std.proofs.Common.{◌≡◌, ◌-◌, ◌<◌, ◌≤◌, length, take, drop, sym, ap, ◌∙◌, ap₂, zero-add, arith, length-take-le}
 use Rattle.std.proofs.lemmas.List.{take_all, drop-take}
-use Rattle.outputs.specs.Texts.{after, shared}
+use Rattle.outputs.specs.Texts.{shared}
 use Rattle.outputs.specs.TextBytes.{after_shared, after_else_shared}
 use Rattle.outputs.proofs.text.joining.rest_behind.Goals as goal
 

@@ -1,4 +1,4 @@
-use Rattle.std.proofs.Common.{◌≡◌, ◌+◌, ◌<◌, ◌++◌, length, get_or, take, sym, ap, ◌∙◌, subst, ap₂, arith, length-take-le}
+use Rattle.std.proofs.Common.{◌++◌, length, get_or, take, sym, ap, ◌∙◌, subst, ap₂, arith, length-take-le}
 use Rattle.std.proofs.lemmas.List.{take_all}
 use Rattle.outputs.specs.Bits.{bits, spread}
 use Rattle.outputs.specs.TextBytes.{spread_more}

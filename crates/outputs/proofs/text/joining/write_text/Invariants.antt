@@ -1,5 +1,5 @@
-use Rattle.std.proofs.Common.{◌++◌, length, take}
-use Rattle.outputs.specs.Bits.{bits, spread}
+use Rattle.std.proofs.Common.{take}
+use Rattle.outputs.specs.Bits.{spread}
 use Rattle.outputs.proofs.text.joining.write_text.Given as goal
 
 abbrev pub invariant-loop-byte : goal.invariant-loop-byte

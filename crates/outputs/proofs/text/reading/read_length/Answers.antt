@@ -1,5 +1,4 @@
-use Rattle.std.proofs.Common.{◌≡◌, ◌<◌, ◌≤◌, length, take, drop, sym, ap, ◌∙◌, subst, arith, length-drop}
-use Rattle.outputs.specs.Bits.{value}
+use Rattle.std.proofs.Common.{drop, sym, ap, ◌∙◌, arith, length-drop}
 use Rattle.outputs.specs.Kinds.{got}
 use Rattle.outputs.proofs.TextReads.{length_there, length_wrong, length_begun, length_not_begun}
 use Rattle.outputs.proofs.text.reading.read_length.Goals as goal

@@ -1,4 +1,4 @@
-use Rattle.std.proofs.Common.{◌≡◌, ◌+◌, ◌*◌, ◌<◌, [], ◌∷◌, ◌++◌, length, take, drop, sym, ap, ◌∙◌, ap₂, add-one, arith, length-set}
+use Rattle.std.proofs.Common.{◌*◌, [], ◌∷◌, ◌++◌, take, drop, sym, ap, ◌∙◌, ap₂, add-one, arith, length-set}
 use Rattle.std.proofs.lemmas.List.{take_more_set, drop-drop}
 use Rattle.outputs.specs.Bits.{value}
 use Rattle.outputs.specs.TextReading.{octets}
