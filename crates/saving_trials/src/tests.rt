@@ -71,71 +71,58 @@ fn save_two<S: Store>(store: &mut S) -> Result<Saved, SaveRefusal> {
     )
 }
 
-/// Fails with a reason unless something holds.
-fn hold(holds: bool, reason: &'static str) -> Result<(), Fail> {
-    if holds {
-        Ok(())
-    } else {
-        Err(Fail::new(reason))
-    }
-}
-
-/// An image was saved at the place, and ends the store.
-fn check_saved<S: Store>(
+/// Whether an image was saved at the place, and ends the store.
+fn is_saved<S: Store>(
     told: Result<Saved, SaveRefusal>,
     place: usize,
     image: &[u8],
     store: &S,
-) -> Result<(), Fail> {
+) -> bool {
     let Ok(saved) = told else {
-        return Err(Fail::new("not saved"))
+        return false
     };
-    hold(saved.place == place, "another place")?;
-    hold(saved.length == image.len(), "another length")?;
-    hold(
-        store.count() == place.saturating_add(image.len()),
-        "the image does not end the store",
-    )?;
-    for i in 0..image.len() {
-        let Ok(byte) = store.at(place.saturating_add(i)) else {
-            return Err(Fail::new("a byte is missing"))
-        };
-        hold(byte == image[i], "another byte")?;
+    if saved.place != place || saved.length != image.len() {
+        return false;
     }
-    Ok(())
+    for (i, byte) in image.iter().enumerate() {
+        if store.at(place.saturating_add(i)) != Ok(*byte) {
+            return false;
+        }
+    }
+    store.count() == place.saturating_add(image.len())
 }
 
-fn check_refused(told: Result<Saved, SaveRefusal>, number: u8) -> Result<(), Fail> {
+/// The number of the refusal, if there was one.
+fn refusal_of(told: Result<Saved, SaveRefusal>) -> Option<u8> {
     match told {
-        Ok(_) => Err(Fail::new("not refused")),
-        Err(refusal) => hold(refusal.number() == number, "another refusal"),
+        Ok(_) => None,
+        Err(refusal) => Some(refusal.number()),
     }
 }
 
 #[test]
-fn images_are_saved_one_behind_another() -> Result<(), Fail> {
+fn images_are_saved_one_behind_another(rt: HostRuntime) {
     let mut memory = [0xEE; 77];
     let mut store = ByteStore::new(&mut memory, 3);
     let told = save_smallest(&mut store, 1);
-    check_saved(told, 3, SMALLEST, &store)?;
+    assert!(rt; is_saved(told, 3, SMALLEST, &store));
     let told = save_two(&mut store);
-    check_saved(told, 29, TWO, &store)
+    assert!(rt; is_saved(told, 29, TWO, &store));
 }
 
 #[test]
-fn a_store_of_words_takes_the_same_bytes() -> Result<(), Fail> {
+fn a_store_of_words_takes_the_same_bytes(rt: HostRuntime) {
     let mut memory: [u32; 12] = [0xEEEE_EEEE; 12];
     let mut store = WordStore::new(&mut memory, 0);
     let told = save_two(&mut store);
-    check_saved(told, 0, TWO, &store)
+    assert!(rt; is_saved(told, 0, TWO, &store));
 }
 
 #[test]
-fn a_byte_too_few_and_no_pair_are_refused(rt: HostRuntime) -> Result<(), Fail> {
+fn a_byte_too_few_and_no_pair_are_refused(rt: HostRuntime) {
     let mut memory = [0xEE; 28];
     let mut store = ByteStore::new(&mut memory, 3);
-    check_refused(save_smallest(&mut store, 1), 15)?;
-    check_refused(save_smallest(&mut store, 0), 10)?;
+    assert_eq!(rt; refusal_of(save_smallest(&mut store, 1)), Some(15));
+    assert_eq!(rt; refusal_of(save_smallest(&mut store, 0)), Some(10));
     assert_eq!(rt; store.count(), 3);
-    Ok(())
 }

@@ -29,7 +29,7 @@ impl<'a, T: Copy> Stacks<'a, T> {
         requires room { Room self.now }
         ensures { result ≡ length (lows self.now) }
     {
-        self.low
+        self.below().len()
     }
 
     // The height of the high stack.
@@ -37,7 +37,7 @@ impl<'a, T: Copy> Stacks<'a, T> {
         requires room { Room self.now }
         ensures { result ≡ length (highs self.now) }
     {
-        self.high
+        self.above().len()
     }
 
     // The low stack, the oldest first.
