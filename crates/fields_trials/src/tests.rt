@@ -43,15 +43,17 @@ fn all_come_back<S: Store>(store: &mut S) -> Result<bool, Fail> {
     let Ok(long) = Text::new(b"DAM-2 NORTH GALLERY P017") else {
         return Err(Fail::new("24 bytes"))
     };
-    Ok(comes_back(store, &Number { value: 0 })
-        && comes_back(
-            store,
-            &Number {
-                value: 4_294_967_295,
-            },
-        )
-        && comes_back(store, &none)
-        && comes_back(store, &long))
+    Ok(
+        comes_back(store, &Number { value: 0 })
+            && comes_back(
+                store,
+                &Number {
+                    value: 4_294_967_295,
+                },
+            )
+            && comes_back(store, &none)
+            && comes_back(store, &long),
+    )
 }
 
 #[test]
@@ -92,11 +94,7 @@ fn answer<O: Output>(kind: &O, row: u32, count: usize) -> Option<Told> {
     let mut words: [u32; 2] = [0xEEEE_EEEE; 2];
     let one = read_cut(&mut ByteStore::new(&mut bytes, 2), kind, row, count);
     let other = read_cut(&mut WordStore::new(&mut words, 2), kind, row, count);
-    if one == other {
-        Some(one)
-    } else {
-        None
-    }
+    if one == other { Some(one) } else { None }
 }
 
 #[test]
@@ -123,8 +121,14 @@ fn texts_are_cut_at_each_bit(rt: HostRuntime) {
         );
     }
     assert_eq!(rt; answer(&kind, code, 21), Some(Told::Read));
-    assert_eq!(rt; answer(&kind, 0b110, 3), Some(Told::Cut(Refusal::Missing(3))));
-    assert_eq!(rt; answer(&kind, 0b1100, 4), Some(Told::Cut(Refusal::Missing(3))));
+    assert_eq!(rt;
+        answer(&kind, 0b110, 3),
+        Some(Told::Cut(Refusal::Missing(3)))
+    );
+    assert_eq!(rt;
+        answer(&kind, 0b1100, 4),
+        Some(Told::Cut(Refusal::Missing(3)))
+    );
     assert_eq!(rt; answer(&kind, 0b111, 3), Some(Told::NoCode));
     assert_eq!(rt; answer(&kind, 0b1101, 4), Some(Told::NoCode));
     assert_eq!(rt; answer(&kind, 0b11001, 5), Some(Told::NoCode));

@@ -78,9 +78,7 @@ fn is_saved<S: Store>(
     image: &[u8],
     store: &S,
 ) -> bool {
-    let Ok(saved) = told else {
-        return false
-    };
+    let Ok(saved) = told else { return false };
     if saved.place != place || saved.length != image.len() {
         return false;
     }
