@@ -1,4 +1,6 @@
 // Two stacks that face each other in one lent slice.
+ghost use Rattle.std.specs.Prelude.{◌+◌, ◌≤◌, length};
+
 pub mod calls;
 
 // The low stack grows from the first cell up, the high stack from the last cell down. The cells between them are free.
@@ -10,4 +12,6 @@ pub struct Stacks<'a, T> {
     low: usize,
     // How many cells the high stack has.
     high: usize,
+    // The two stacks do not overlap.
+    pub ghost room: { low + high ≤ length cells.now },
 }

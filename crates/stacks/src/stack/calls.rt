@@ -1,13 +1,13 @@
 // The calls on facing stacks: each says what both stacks hold afterwards.
 ghost use Rattle.std.specs.Prelude.{◌≡◌, ◌+◌, ◌-◌, ◌<◌, ◌≤◌, [], ◌∷◌, ◌++◌, length, take, drop, slice_index_or, slice_set};
-ghost use Rattle.stacks.specs.Stacks.{lows, highs, capacity, Room};
+ghost use Rattle.stacks.specs.Stacks.{lows, highs, capacity};
 
 use super::Stacks;
 
 impl<'a, T: Copy> Stacks<'a, T> {
     // Both stacks are empty, whatever the cells hold.
     pub fn new(cells: &'a mut [T]) -> Stacks<'a, T>
-        ensures { (lows result ≡ []) × ((highs result ≡ []) × ((capacity result ≡ length cells.old) × (Room result))) }
+        ensures { (lows result ≡ []) × ((highs result ≡ []) × (capacity result ≡ length cells.old)) }
     {
         Stacks {
             cells,
@@ -18,7 +18,6 @@ impl<'a, T: Copy> Stacks<'a, T> {
 
     // How many cells neither stack has.
     pub fn free(&self) -> usize
-        requires room { Room self.now }
         ensures { result + (length (lows self.now) + length (highs self.now)) ≡ capacity self.now }
     {
         self.cells.len() - self.low - self.high
@@ -26,7 +25,6 @@ impl<'a, T: Copy> Stacks<'a, T> {
 
     // The height of the low stack.
     pub fn lows(&self) -> usize
-        requires room { Room self.now }
         ensures { result ≡ length (lows self.now) }
     {
         self.below().len()
@@ -34,7 +32,6 @@ impl<'a, T: Copy> Stacks<'a, T> {
 
     // The height of the high stack.
     pub fn highs(&self) -> usize
-        requires room { Room self.now }
         ensures { result ≡ length (highs self.now) }
     {
         self.above().len()
@@ -42,7 +39,6 @@ impl<'a, T: Copy> Stacks<'a, T> {
 
     // The low stack, the oldest first.
     pub fn below(&self) -> &[T]
-        requires room { Room self.now }
         ensures { result.now ≡ lows self.now }
     {
         &self.cells[0..self.low]
@@ -50,7 +46,6 @@ impl<'a, T: Copy> Stacks<'a, T> {
 
     // The high stack, the newest first.
     pub fn above(&self) -> &[T]
-        requires room { Room self.now }
         ensures { result.now ≡ highs self.now }
     {
         &self.cells[self.cells.len() - self.high..self.cells.len()]
@@ -58,8 +53,7 @@ impl<'a, T: Copy> Stacks<'a, T> {
 
     // The i-th of the low stack, counted from the oldest.
     pub fn at_low(&self, i: usize) -> T
-        requires room { Room self.now }
-        requires fits { i < length (lows self.now) }
+        requires { i < length (lows self.now) }
         ensures { (d : _) → result ≡ slice_index_or (lows self.now) i d }
     {
         self.below()[i]
@@ -67,8 +61,7 @@ impl<'a, T: Copy> Stacks<'a, T> {
 
     // The i-th of the high stack, counted from the newest.
     pub fn at_high(&self, i: usize) -> T
-        requires room { Room self.now }
-        requires fits { i < length (highs self.now) }
+        requires { i < length (highs self.now) }
         ensures { (d : _) → result ≡ slice_index_or (highs self.now) i d }
     {
         self.above()[i]
@@ -76,24 +69,20 @@ impl<'a, T: Copy> Stacks<'a, T> {
 
     // Writes the i-th of the low stack, counted from the oldest.
     pub fn set_low(&mut self, i: usize, x: T)
-        requires room { Room self.old }
-        requires fits { i < length (lows self.old) }
+        requires { i < length (lows self.old) }
         ensures lows { lows self.new ≡ slice_set (lows self.old) i x }
         ensures highs { highs self.new ≡ highs self.old }
         ensures capacity { capacity self.new ≡ capacity self.old }
-        ensures room { Room self.new }
     {
         self.cells[i] = x;
     }
 
     // Puts a value on the low stack, into a free cell.
     pub fn push_low(&mut self, x: T)
-        requires room { Room self.old }
-        requires fits { length (lows self.old) + length (highs self.old) < capacity self.old }
+        requires { length (lows self.old) + length (highs self.old) < capacity self.old }
         ensures lows { lows self.new ≡ lows self.old ++ (x ∷ []) }
         ensures highs { highs self.new ≡ highs self.old }
         ensures capacity { capacity self.new ≡ capacity self.old }
-        ensures room { Room self.new }
     {
         self.cells[self.low] = x;
         self.low += 1;
@@ -101,12 +90,10 @@ impl<'a, T: Copy> Stacks<'a, T> {
 
     // Puts a value on the high stack, into a free cell.
     pub fn push_high(&mut self, x: T)
-        requires room { Room self.old }
-        requires fits { length (lows self.old) + length (highs self.old) < capacity self.old }
+        requires { length (lows self.old) + length (highs self.old) < capacity self.old }
         ensures lows { lows self.new ≡ lows self.old }
         ensures highs { highs self.new ≡ x ∷ highs self.old }
         ensures capacity { capacity self.new ≡ capacity self.old }
-        ensures room { Room self.new }
     {
         let n = self.cells.len();
         self.cells[n - self.high - 1] = x;
@@ -115,12 +102,10 @@ impl<'a, T: Copy> Stacks<'a, T> {
 
     // The newest of the low stack, which is let go.
     pub fn pop_low(&mut self) -> T
-        requires room { Room self.old }
-        requires fits { 0 < length (lows self.old) }
+        requires { 0 < length (lows self.old) }
         ensures lows { lows self.old ≡ lows self.new ++ (result ∷ []) }
         ensures highs { highs self.new ≡ highs self.old }
         ensures capacity { capacity self.new ≡ capacity self.old }
-        ensures room { Room self.new }
     {
         self.low -= 1;
         self.cells[self.low]
@@ -128,12 +113,10 @@ impl<'a, T: Copy> Stacks<'a, T> {
 
     // Moves the newest of the low stack onto the high stack.
     pub fn settle(&mut self)
-        requires room { Room self.old }
-        requires fits { 0 < length (lows self.old) }
+        requires { 0 < length (lows self.old) }
         ensures kept { lows self.new ++ highs self.new ≡ lows self.old ++ highs self.old }
         ensures count { length (lows self.new) + 1 ≡ length (lows self.old) }
         ensures capacity { capacity self.new ≡ capacity self.old }
-        ensures room { Room self.new }
     {
         let x = self.pop_low();
         self.push_high(x);
@@ -141,12 +124,10 @@ impl<'a, T: Copy> Stacks<'a, T> {
 
     // Moves the k newest of the low stack onto the high stack, in their order.
     pub fn settle_all(&mut self, k: usize)
-        requires room { Room self.old }
-        requires fits { k ≤ length (lows self.old) }
+        requires { k ≤ length (lows self.old) }
         ensures lows { lows self.new ≡ take (length (lows self.old) - k) (lows self.old) }
         ensures highs { highs self.new ≡ drop (length (lows self.old) - k) (lows self.old) ++ highs self.old }
         ensures capacity { capacity self.new ≡ capacity self.old }
-        ensures room { Room self.new }
     {
         for _ in 0..k {
             self.settle();
@@ -155,24 +136,20 @@ impl<'a, T: Copy> Stacks<'a, T> {
 
     // Lets the k newest of the low stack go.
     pub fn forget_low(&mut self, k: usize)
-        requires room { Room self.old }
-        requires fits { k ≤ length (lows self.old) }
+        requires { k ≤ length (lows self.old) }
         ensures lows { lows self.new ≡ take (length (lows self.old) - k) (lows self.old) }
         ensures highs { highs self.new ≡ highs self.old }
         ensures capacity { capacity self.new ≡ capacity self.old }
-        ensures room { Room self.new }
     {
         self.low -= k;
     }
 
     // The newest of the high stack, which is let go.
     pub fn pop_high(&mut self) -> T
-        requires room { Room self.old }
-        requires fits { 0 < length (highs self.old) }
+        requires { 0 < length (highs self.old) }
         ensures lows { lows self.new ≡ lows self.old }
         ensures highs { highs self.old ≡ result ∷ highs self.new }
         ensures capacity { capacity self.new ≡ capacity self.old }
-        ensures room { Room self.new }
     {
         let n = self.cells.len();
         let x = self.cells[n - self.high];
@@ -189,12 +166,10 @@ impl<'a, T: Copy> Stacks<'a, T> {
 
     // Writes the i-th of the high stack, counted from the newest.
     pub fn set_high(&mut self, i: usize, x: T)
-        requires room { Room self.old }
-        requires fits { i < length (highs self.old) }
+        requires { i < length (highs self.old) }
         ensures lows { lows self.new ≡ lows self.old }
         ensures highs { highs self.new ≡ slice_set (highs self.old) i x }
         ensures capacity { capacity self.new ≡ capacity self.old }
-        ensures room { Room self.new }
     {
         let n = self.cells.len();
         self.cells[n - self.high + i] = x;

@@ -5,10 +5,9 @@ use Rattle.stacks.proofs.stack.Stacks.pop_low.Goals as goal
 pub returns : goal.returns
 returns g c =
     let s = c.args.self.now in
-    let l = length_low s.cells.now s.low s.high c.requires.room in
+    let l = length_low s.cells.now s.low s.high c.args.self.now.room in
     record {
-      lows = low_pop s.cells.now s.low s.high c.requires.room _ (omega arith);
+      lows = low_pop s.cells.now s.low s.high c.args.self.now.room _ (omega arith);
       highs = refl;
       capacity = refl;
-      room = omega arith;
     }

@@ -5,12 +5,11 @@ use Rattle.stacks.proofs.stack.Stacks.push_low.Goals as goal
 pub returns : goal.returns
 returns g c =
     let s = c.args.self.now in
-    let l = length_low s.cells.now s.low s.high c.requires.room in
-    let h = length_high s.cells.now s.low s.high c.requires.room in
+    let l = length_low s.cells.now s.low s.high c.args.self.now.room in
+    let h = length_high s.cells.now s.low s.high c.args.self.now.room in
     let k : s.low + s.high < length s.cells.now = omega arith in
     record {
-      lows = low_push s.cells.now s.low s.high c.requires.room c.args.x k;
-      highs = high_kept s.cells.now s.low s.high c.requires.room s.low c.args.x (omega arith);
+      lows = low_push s.cells.now s.low s.high c.args.self.now.room c.args.x k;
+      highs = high_kept s.cells.now s.low s.high c.args.self.now.room s.low c.args.x (omega arith);
       capacity = length-set _ _ _;
-      room = simp length-set (omega arith);
     }

@@ -7,11 +7,11 @@ use Rattle.stacks.proofs.stack.Stacks.settle.Goals as goal
 pub push_high-requires : goal.push_high-requires
 push_high-requires g c =
     let s = c.args.self.now in
-    let t = total s.cells.now s.low s.high c.requires.room in
+    let t = total s.cells.now s.low s.high c.args.self.now.room in
     let e = c.pop_low-x.ensures in
     let l = ap length e.lows ∙ length_push _ _ in
     let h = ap length e.highs in
-    record { room = e.room; fits = omega (arith, e.capacity) }
+    omega (arith, e.capacity)
 
 pub returns : goal.returns
 returns g c =
@@ -23,5 +23,4 @@ returns g c =
       kept = simp (f.lows, f.highs, e.lows, append_assoc, e.highs);
       count = omega (arith, ap length f.lows);
       capacity = f.capacity ∙ e.capacity;
-      room = f.room;
     }

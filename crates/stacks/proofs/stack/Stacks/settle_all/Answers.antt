@@ -4,16 +4,16 @@ use Rattle.stacks.proofs.TwoEnds.{cut_low, cut_high}
 use Rattle.stacks.proofs.stack.Stacks.settle_all.Goals as goal
 
 pub loop-init : goal.loop-init
-loop-init g c = (refl, omega arith, refl, c.requires.room)
+loop-init g c = (refl, omega arith, refl)
 
 pub settle-requires : goal.settle-requires
-settle-requires g c = record { room = c.loop.invariant.3; fits = omega (arith, c.loop.invariant.1) }
+settle-requires g c = omega (arith, c.loop.invariant.1)
 
 pub loop-preserved : goal.loop-preserved
 loop-preserved g c =
     let e = c.settle.ensures in
     let i = c.loop.invariant in
-    (e.kept ∙ i.0, omega (arith, e.count, i.1), e.capacity ∙ i.2, e.room)
+    (e.kept ∙ i.0, omega (arith, e.count, i.1), e.capacity ∙ i.2)
 
 pub returns : goal.returns
 returns g c =
@@ -24,5 +24,4 @@ returns g c =
       lows = cut_low _ _ _ _ (length (lows s) - c.args.k) i.0 n (omega arith);
       highs = cut_high _ _ _ _ (length (lows s) - c.args.k) i.0 n (omega arith);
       capacity = i.2;
-      room = i.3;
     }
