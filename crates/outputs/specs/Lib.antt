@@ -14,3 +14,4 @@ pub mod TextLaws
 pub mod Codes
 pub mod TextParts
 pub mod TextBytes
+pub mod Meanings

@@ -1,4 +1,4 @@
--- The lists of the memory are as long as what is held has states, records and arcs. Assumes that the memory is sound.
+-- The lists of the memory are as long as what is held has states, records and arcs. Assumes nothing.
 use Rattle.std.proofs.Common.{◌≡◌, ℕ, ◌+◌, ◌-◌, ◌≤◌, List, [], ◌∷◌, ◌++◌, map, reverse, length, take, drop, sym, refl, ap, ◌∙◌, arith}
 use mathlib.Core.List.{reverse-cons}
 use lib.ListN.{length-reverse}
@@ -8,7 +8,8 @@ use Rattle.machines.specs.Machines.{Arc as Edge, count_arcs}
 use Rattle.construction.specs.Records.{Open, open_arcs}
 use Rattle.records.specs.declared.record.State.{State}
 use Rattle.records.specs.declared.memory.Core.{Core}
-use Rattle.records.specs.Shape.{Sound, Led, Laid, Packed, openings, closings, edgings}
+use Rattle.records.specs.Lying.{Led, Laid, Packed}
+use Rattle.records.specs.Shape.{openings, closings, edgings}
 use Rattle.records.specs.Holding.{arc_of, arcs_of, closed_state, open_record, closed_states, opened, held}
 use Rattle.records.proofs.Laying.{packed_up}
 
@@ -54,16 +55,15 @@ module _ {O I : Type 0} (mean : O → I) (c : Core O) where
   pub count_open : length (held mean c).open' ≡ openings c
   count_open = length-reverse (opened mean c) ∙ count_opened
 
-  module _ (so : Sound c) where
-    pub count_closed_arcs : count_arcs (closed_states mean c) ≡ length (highs c.arcs)
-    count_closed_arcs =
-        let n = length-map (highs c.arcs) (arc_of mean) in
-        let p : Packed 0 (length (arcs_of mean (highs c.arcs))) (lows c.states) = rw n so.packed in
-        omega (arith, closed_arcs mean (arcs_of mean (highs c.arcs)) 0 (lows c.states) p)
+  pub count_closed_arcs : count_arcs (closed_states mean c) ≡ length (highs c.arcs)
+  count_closed_arcs =
+      let n = length-map (highs c.arcs) (arc_of mean) in
+      let p : Packed 0 (length (arcs_of mean (highs c.arcs))) (lows c.states) = rw n c.sound.packed in
+      omega (arith, closed_arcs mean (arcs_of mean (highs c.arcs)) 0 (lows c.states) p)
 
-    pub count_open_arcs : open_arcs (held mean c).open' ≡ length (lows c.arcs)
-    count_open_arcs = reverse_arcs (opened mean c) ∙ laid_arcs mean (arcs_of mean (lows c.arcs)) (length (lows c.arcs)) (highs c.states) so.laid (omega (arith, length-map (lows c.arcs) (arc_of mean)))
+  pub count_open_arcs : open_arcs (held mean c).open' ≡ length (lows c.arcs)
+  count_open_arcs = reverse_arcs (opened mean c) ∙ laid_arcs mean (arcs_of mean (lows c.arcs)) (length (lows c.arcs)) (highs c.states) c.sound.laid (omega (arith, length-map (lows c.arcs) (arc_of mean)))
 
-    -- the arcs of all, counted
-    pub count_edges : count_arcs (closed_states mean c) + open_arcs (held mean c).open' ≡ edgings c
-    count_edges = omega (arith, count_closed_arcs, count_open_arcs)
+  -- the arcs of all, counted
+  pub count_edges : count_arcs (closed_states mean c) + open_arcs (held mean c).open' ≡ edgings c
+  count_edges = omega (arith, count_closed_arcs, count_open_arcs)

@@ -1,7 +1,7 @@
 -- Records laid end to end: what one has of the arcs, and what changes when one is written, popped or pushed. Assumes nothing.
 use Rattle.std.proofs.Common.{◌≡◌, ℕ, zero, suc, ◌+◌, ◌-◌, ◌<◌, ◌≤◌, List, [], ◌∷◌, ◌++◌, length, get_or, set, sym, ap, ◌∙◌, subst, arith}
 use Rattle.records.specs.declared.record.State.{State}
-use Rattle.records.specs.Shape.{Led, Laid, Since, Placed, Packed}
+use Rattle.records.specs.Lying.{Led, Laid, Since, Placed, Packed}
 
 module _ {O : Type 0} where
   pub led_at : (n : ℕ) (ss : List (State O)) (i : ℕ) (x : State O) → i < length ss → Led n ss → x ≡ get_or ss i x → (x.first + x.count ≤ n) × (0 < x.count)

@@ -3,4 +3,3 @@ pub mod Moving
 pub mod Cutting
 pub mod Standing
 pub mod Counting
-pub mod Testing

@@ -3,7 +3,7 @@ use Rattle.std.proofs.Common.{◌≡◌, ℕ, ◌+◌, ◌-◌, ◌≤◌, List,
 use Rattle.std.proofs.lemmas.List.{take_at, take_all, length-drop}
 use Rattle.machines.specs.Machines.{Arc as Edge}
 use Rattle.records.specs.declared.record.State.{State}
-use Rattle.records.specs.Shape.{Led, Placed}
+use Rattle.records.specs.Lying.{Led, Placed}
 use Rattle.records.specs.Holding.{end_of, closed_state, open_record}
 use Rattle.records.proofs.Cutting.{last_kept, cut_before}
 

@@ -1,6 +1,7 @@
 -- What the memory stands for, by what outputs mean: closed states, open records, the start output and the pairs. Assumes nothing.
-use Rattle.std.specs.Prelude.{ℕ, ◌-◌, cond, List, map, reverse, length, take, drop}
-use Rattle.std.proofs.Math.Option.{Option, none, some}
+use Rattle.std.specs.Prelude.{ℕ, ◌-◌, List, map, reverse, length, take, drop}
+use Rattle.std.proofs.Math.Option.{Option}
+use Rattle.outputs.specs.Meanings.{meant}
 use Rattle.stacks.specs.Stacks.{lows, highs}
 use Rattle.machines.specs.Machines.{Arc as Edge, State as Node}
 use Rattle.construction.specs.Records.{Open, Closed, Held}
@@ -16,7 +17,7 @@ module _ {O I : Type 0} (mean : O → I) where
   arcs_of as' = map arc_of as'
 
   abbrev pub end_of : State O → Option I
-  end_of s = cond s.ends (some (mean s.end)) none
+  end_of s = meant mean s.end
 
   -- a closed state among the arcs of all closed ones
   abbrev pub closed_state : List (Edge I) → State O → Node I

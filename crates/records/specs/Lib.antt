@@ -1,4 +1,4 @@
+pub mod Lying
 pub mod Shape
 pub mod Holding
 pub mod Registering
-pub mod Tests

@@ -14,10 +14,8 @@ pub struct Arc<O> {
 // A closed state or an open record.
 #[derive(Clone, Copy)]
 pub struct State<O> {
-    // Whether a key ends here.
-    pub ends: bool,
-    // The end output where a key ends here, and else of no meaning.
-    pub end: O,
+    // What is put out where a key ends here, if one does.
+    pub end: Option<O>,
     // How many arcs it has.
     pub count: u32,
     // Of an open record the place of its first arc; of a closed state that place counted from the end of the arc list.

@@ -7,7 +7,9 @@ use super::Stacks;
 impl<'a, T: Copy> Stacks<'a, T> {
     // Both stacks are empty, whatever the cells hold.
     pub fn new(cells: &'a mut [T]) -> Stacks<'a, T>
-        ensures { (lows result ≡ []) × ((highs result ≡ []) × (capacity result ≡ length cells.old)) }
+        ensures lows { lows result ≡ [] }
+        ensures highs { highs result ≡ [] }
+        ensures capacity { capacity result ≡ length cells.old }
     {
         Stacks {
             cells,

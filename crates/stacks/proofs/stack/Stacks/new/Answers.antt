@@ -3,4 +3,4 @@ use Rattle.std.proofs.lemmas.List.{drop_all}
 use Rattle.stacks.proofs.stack.Stacks.new.Goals as goal
 
 pub returns : goal.returns
-returns g c = (refl, (drop_all _ c.args.cells.now (omega arith), refl))
+returns g c = record { lows = refl; highs = drop_all _ c.args.cells.now (omega arith); capacity = refl }
