@@ -1,17 +1,15 @@
 -- The newest open record among its arcs, and the same answer in other words. Assumes nothing.
 use Rattle.std.proofs.Common.{◌≡◌, ℕ, ◌+◌, ◌-◌, ◌<◌, List, [], ◌∷◌, map, length, get_or, take, drop, sym, ap, ◌∙◌, arith}
 use Rattle.construction.specs.Records.{Open, state_of}
-use Rattle.register.specs.declared.Probe.{Probe}
-use Rattle.register.specs.declared.Probe.TheVariants.{Found, Free, Full}
+use Rattle.std.specs.Prelude.{Result, Ok, Err}
 use Rattle.register.specs.Answers.{Told}
 use Rattle.records.specs.declared.record.State.{State}
-use Rattle.records.specs.Shape.{Laid}
+use Rattle.records.specs.Lying.{Laid}
 use Rattle.comparing.specs.Newest.{newest}
 
-pub told_as : (n : ℕ) (E F : ℕ → Type 0) (ts : List ℕ) (h : ℕ) (r : Probe) → ((q : ℕ) → q < n → E q → F q) → ((q : ℕ) → q < n → F q → E q) → Told n E ts h r → Told n F ts h r
-told_as n E F ts h (Found q) to from t = (t.0, to q t.0 t.1)
-told_as n E F ts h (Free i) to from t = record { hole = t.hole; none_equal = λ q l e f. t.none_equal q l e (from q l f) }
-told_as n E F ts h Full to from t = t
+pub told_as : (n : ℕ) (E F : ℕ → Type 0) (ts : List ℕ) (h : ℕ) (r : Result ℕ ℕ) → ((q : ℕ) → q < n → E q → F q) → ((q : ℕ) → q < n → F q → E q) → Told n E ts h r → Told n F ts h r
+told_as n E F ts h (Ok q) to from t = (t.0, to q t.0 t.1)
+told_as n E F ts h (Err i) to from t = record { hole = t.hole; none_equal = λ q l e f. t.none_equal q l e (from q l f) }
 
 pub newest_is : {O I : Type 0} (f : State O → Open I) (hs : List (State O)) (top : State O) → 0 < length hs → top ≡ get_or hs 0 top → newest (map f hs) ≡ state_of (f top)
 newest_is f [] top h e = absurd (omega arith)

@@ -1,16 +1,29 @@
--- Lists that are equal under a function, place by place. Assumes nothing.
-use Rattle.std.proofs.Common.{◌≡◌, ℕ, ◌+◌, ◌<◌, List, map, length, get_or, take, sym, ap, ◌∙◌}
-use Rattle.std.proofs.lemmas.List.{length-map, get_or-map, map_more}
+-- Whether lists are equal under a function, from their elements two by two. Assumes nothing.
+use Rattle.std.proofs.Common.{◌≡◌, ℕ, zero, suc, ◌<◌, Bool, true, false, List, [], ◌∷◌, map, length, sym, refl, ap, ◌∙◌, arith}
+use Rattle.std.proofs.lemmas.List.{length-map}
+use Rattle.std.specs.Bool.{MatchBool}
+use Rattle.std.specs.List.{zip, AllWithin, HoldsAt}
+use Rattle.outputs.specs.Joins.{Tells}
 
 module _ {X Y : Type 0} (h : X → Y) where
   pub map_length : (a b : List X) → map h a ≡ map h b → length a ≡ length b
   map_length a b q = sym (length-map a h) ∙ ap length q ∙ length-map b h
 
-  pub item_same : (a b : List X) (i : ℕ) (e f : X) → i < length a → i < length b → e ≡ get_or a i e → f ≡ get_or b i f → map h a ≡ map h b → h e ≡ h f
-  item_same a b i e f la lb qe qf q = ap h qe ∙ sym (get_or-map h a i e (h e) la) ∙ ap (λ (m : List Y). get_or m i (h e)) q ∙ get_or-map h b i f (h e) lb ∙ ap h (sym qf)
+  each_same : (a b : List X) → length a ≡ length b → AllWithin (λ p. h p.0 ≡ h p.1) (zip a b) 0 (length (zip a b)) → map h a ≡ map h b
+  each_same [] [] e f = refl
+  each_same [] (y ∷ b) e f = absurd (omega arith)
+  each_same (x ∷ a) [] e f = absurd (omega arith)
+  each_same (x ∷ a) (y ∷ b) e f =
+      let here = f 0 (x, y) (omega arith) (omega arith) in
+      let rest = each_same a b (omega arith) (λ k d low high. f (suc k) d (omega arith) (omega arith)) in
+      λ i. here i ∷ rest i
 
-  pub items_more : (a b : List X) (i : ℕ) (e f : X) → i < length a → i < length b → e ≡ get_or a i e → f ≡ get_or b i f → h e ≡ h f → map h (take i a) ≡ map h (take i b) → map h (take (i + 1) a) ≡ map h (take (i + 1) b)
-  items_more a b i e f la lb qe qf s q =
-      let ma = map_more h a i e la in
-      let mb = map_more h b i f lb in
-      let s' : h (get_or a i e) ≡ h (get_or b i f) = ap h (sym qe) ∙ s ∙ ap h qf in cc
+  none_differ : (a b : List X) (k : ℕ) → k < length (zip a b) → HoldsAt (λ p. h p.0 ≡ h p.1 → ⊥) (zip a b) k → map h a ≡ map h b → ⊥
+  none_differ [] b k l unlike q = absurd (omega arith)
+  none_differ (x ∷ a) [] k l unlike q = absurd (omega arith)
+  none_differ (x ∷ a) (y ∷ b) zero l unlike q = let e : h x ≡ h y = cc in unlike (x, y) e
+  none_differ (x ∷ a) (y ∷ b) (suc k) l unlike q = let e : map h a ≡ map h b = cc in none_differ a b k (omega arith) unlike e
+
+  pub told_by_pairs : (a b : List X) (r : Bool) → length a ≡ length b → MatchBool r (AllWithin (λ p. h p.0 ≡ h p.1) (zip a b) 0 (length (zip a b))) ((k : ℕ) × (k < length (zip a b)) × HoldsAt (λ p. h p.0 ≡ h p.1 → ⊥) (zip a b) k) → Tells (map h a) (map h b) r
+  told_by_pairs a b true e m = record { equal = λ t. each_same a b e m; different = λ t q. let z : ◌≡◌ {A = ℕ} 0 1 = cc in absurd (omega arith) }
+  told_by_pairs a b false e m = record { equal = λ t. let z : ◌≡◌ {A = ℕ} 0 1 = cc in absurd (omega arith); different = λ t q. none_differ a b m.0 m.1 m.2 q }

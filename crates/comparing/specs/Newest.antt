@@ -1,9 +1,8 @@
 -- What looking up the newest open record tells. Assumes nothing.
-use Rattle.std.specs.Prelude.{◌≡◌, ℕ, List, [], ◌∷◌, length}
+use Rattle.std.specs.Prelude.{◌≡◌, ℕ, List, [], ◌∷◌, Result, length}
 use Rattle.std.proofs.Math.Option.{none}
 use Rattle.machines.specs.Machines.{State as Node}
 use Rattle.construction.specs.Records.{Open, state_of}
-use Rattle.register.specs.declared.Probe.{Probe}
 use Rattle.register.specs.Answers.{Told}
 use Rattle.records.specs.declared.memory.Core.{Core}
 use Rattle.records.specs.Shape.{closings}
@@ -16,5 +15,5 @@ newest [] = record { end = none; arcs = [] }
 newest (o ∷ os) = state_of o
 
 -- looked for from its home among the closed states
-abbrev pub LookedUp : {O I : Type 0} → (I → ℕ) → (O → I) → Core O → Probe → Type 0
+abbrev pub LookedUp : {O I : Type 0} → (I → ℕ) → (O → I) → Core O → Result ℕ ℕ → Type 0
 LookedUp digested mean c r = Told (closings c) (λ q. newest (opened mean c) ≡ state_at (closed_states mean c) q) c.slots.now (home digested (length c.slots.now) (newest (opened mean c))) r

@@ -17,10 +17,9 @@ pub fn stir(h: u64, x: u64) -> u64
 fn stir_end<O: Output>(state: &State<O>) -> u64
     ensures { result ≡ stirred_end O.Output.digested (end_of O.Output.meaning state.now) }
 {
-    if state.ends {
-        stir(1, state.end.digest())
-    } else {
-        0
+    match &state.end {
+        Some(end) => stir(1, end.digest()),
+        None => 0,
     }
 }
 

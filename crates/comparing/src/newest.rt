@@ -1,6 +1,7 @@
 // The newest open record, looked for in the register.
 ghost use Rattle.std.specs.Prelude.{◌≡◌, ◌+◌, ◌-◌, ◌<◌, ◌≤◌, length, take, drop, slice_index_or};
-ghost use Rattle.records.specs.Shape.{Sound, Placed, openings};
+ghost use Rattle.records.specs.Lying.{Placed};
+ghost use Rattle.records.specs.Shape.{openings};
 ghost use Rattle.records.specs.Holding.{arcs_of, end_of, closed_state};
 ghost use Rattle.comparing.specs.Newest.{LookedUp};
 
@@ -9,7 +10,7 @@ use crate::same::{same_arcs, same_end};
 use outputs::output::Output;
 use records::memory::Core;
 use records::record::{Arc, State};
-use register::{Probe, Wanted, look_up};
+use register::{Wanted, look_up};
 
 // An open record, and the closed states that it is compared with.
 #[derive(Drop)]
@@ -55,15 +56,14 @@ fn arcs_at<O: Output>(closed: &[Arc<O>], first: u32, count: u32) -> &[Arc<O>]
     &closed[from..from + count as usize]
 }
 
-// The closed state that is equal to the newest open record, or the free slot for it.
-pub fn equal_state<'a, O: Output>(core: &Core<'a, O>) -> Probe
-    requires sound { Sound core.now }
-    requires top { 0 < openings core.now }
+// The closed state that is equal to the newest open record, or, as the error, the free slot for it.
+pub fn equal_state<'a, O: Output>(core: &Core<'a, O>) -> Result<u16, usize>
+    requires { 0 < openings core.now }
     ensures { LookedUp O.Output.digested O.Output.meaning core.now result }
 {
     let top = core.states.at_high(0);
     let open = core.arcs.below();
-    let arcs = &open[top.first as usize..open.len()];
+    let arcs = &open[top.first as usize..];
     let home = first_slot(&top, arcs, core.slots.len());
     let newest = Newest {
         state: top,

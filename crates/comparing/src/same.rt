@@ -9,10 +9,10 @@ use records::record::{Arc, State};
 pub fn same_end<O: Output>(a: &State<O>, b: &State<O>) -> bool
     ensures { Tells (end_of O.Output.meaning a.now) (end_of O.Output.meaning b.now) result }
 {
-    if a.ends {
-        b.ends && a.end.same(&b.end)
-    } else {
-        !b.ends
+    match (&a.end, &b.end) {
+        (Some(end), Some(other)) => end.same(other),
+        (None, None) => true,
+        _ => false,
     }
 }
 
@@ -25,13 +25,5 @@ pub fn same_arc<O: Output>(a: &Arc<O>, b: &Arc<O>) -> bool
 pub fn same_arcs<O: Output>(a: &[Arc<O>], b: &[Arc<O>]) -> bool
     ensures { Tells (arcs_of O.Output.meaning a.now) (arcs_of O.Output.meaning b.now) result }
 {
-    if a.len() != b.len() {
-        return false;
-    }
-    for i in 0..a.len() {
-        if !same_arc(&a[i], &b[i]) {
-            return false;
-        }
-    }
-    true
+    a.len() == b.len() && a.iter().zip(b).all(|(arc, other)| same_arc(arc, other))
 }

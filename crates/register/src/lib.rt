@@ -7,16 +7,6 @@ ghost use Rattle.std.specs.Prelude.{◌≡◌, ℕ, ◌+◌, ◌<◌, ◌≤◌,
 ghost use Rattle.register.specs.Slots.{Entered, Hole, used};
 ghost use Rattle.register.specs.Answers.{Among, Scanned, Told};
 
-// What probing some slots tells.
-pub enum Probe {
-    // This state is equal.
-    Found(u16),
-    // No state before this free slot is equal.
-    Free(usize),
-    // No state is equal, and no slot is free.
-    Full,
-}
-
 // What is looked for, and the states that it is compared with.
 pub trait Wanted {
     // How many states there are.
@@ -35,37 +25,46 @@ pub trait Wanted {
         ensures different { result ≡ false → equals self.now q → ⊥ };
 }
 
-// Probes the slots from one place up to another.
-pub fn scan<C: Wanted>(want: &C, slots: &[u16], from: usize, to: usize) -> Probe
+// Probes the slots from one place up to another: an equal state, or else the first free slot before which none is equal;
+// nothing where no state is equal and no slot is free.
+pub fn scan<C: Wanted>(
+    want: &C,
+    slots: &[u16],
+    from: usize,
+    to: usize,
+) -> Option<Result<u16, usize>>
     requires sound { C.Wanted.sound want.now }
     requires known { (i : ℕ) → slice_index slots.now i ≤ C.Wanted.count want.now }
     requires fits { to ≤ length slots.now }
     ensures { Scanned (Among (C.Wanted.count want.now) (C.Wanted.equals want.now)) slots.now from to result }
 {
+    // By number, which is the answer: `slots.iter().enumerate().take(to).skip(from)` says no more.
     for i in from..to {
         let entry = slots[i];
         if entry == 0 {
-            return Probe::Free(i);
+            return Some(Err(i));
         }
         if want.same(entry - 1) {
-            return Probe::Found(entry - 1);
+            return Some(Ok(entry - 1));
         }
     }
-    Probe::Full
+    None
 }
 
-// An equal state; or, where none that is entered from this home is equal, the free slot for it. One slot at least is free.
-pub fn look_up<C: Wanted>(want: &C, slots: &[u16], home: usize) -> Probe
+// An equal state; or, as the error, the free slot for one where none that is entered from this home is equal. One slot at least is free.
+pub fn look_up<C: Wanted>(want: &C, slots: &[u16], home: usize) -> Result<u16, usize>
     requires sound { C.Wanted.sound want.now }
     requires known { (i : ℕ) → slice_index slots.now i ≤ C.Wanted.count want.now }
     requires fits { home < length slots.now }
     requires few { used slots.now < length slots.now }
     ensures { Told (C.Wanted.count want.now) (C.Wanted.equals want.now) slots.now home result }
 {
-    match scan(want, slots, home, slots.len()) {
-        Probe::Found(q) => Probe::Found(q),
-        Probe::Free(slot) => Probe::Free(slot),
-        Probe::Full => scan(want, slots, 0, home),
+    if let Some(probed) = scan(want, slots, home, slots.len()) {
+        return probed;
+    }
+    match scan(want, slots, 0, home) {
+        Some(probed) => probed,
+        None => unreachable!(),
     }
 }
 

@@ -6,7 +6,8 @@ use Rattle.machines.specs.Machines.{State as Node}
 use Rattle.records.specs.declared.record.State.{State}
 use Rattle.records.specs.declared.record.Arc.{Arc}
 use Rattle.records.specs.declared.memory.Core.{Core}
-use Rattle.records.specs.Shape.{Placed, Sound, openings}
+use Rattle.records.specs.Lying.{Placed}
+use Rattle.records.specs.Shape.{openings}
 use Rattle.records.specs.Holding.{arcs_of, end_of, closed_state, closed_states, opened, open_record}
 use Rattle.records.specs.Registering.{state_at, home}
 use Rattle.records.proofs.Cutting.{arcs_part}
@@ -17,29 +18,29 @@ use Rattle.comparing.proofs.Looking.{told_as, newest_is, laid_top, part_to_end}
 use Rattle.comparing.proofs.newest.equal_state.Goals as goal
 
 -- where the newest record's arcs end
-ends : {O : Type 0} (b : Core O) (x : State O) → Sound b → 0 < openings b → x ≡ get_or (highs b.states) 0 x → x.first + x.count ≡ length (lows b.arcs)
-ends b x so h e = laid_top (length (lows b.arcs)) (highs b.states) x h so.laid e
+ends : {O : Type 0} (b : Core O) (x : State O) → 0 < openings b → x ≡ get_or (highs b.states) 0 x → x.first + x.count ≡ length (lows b.arcs)
+ends b x h e = laid_top (length (lows b.arcs)) (highs b.states) x h b.sound.laid e
 
 pub offset_bounds-open-top : goal.offset_bounds-open-top
-offset_bounds-open-top g c = let x = c.at_high-top.result in omega (arith, ends c.args.core.now x c.requires.sound c.requires.top (c.at_high-top.ensures x), ap length c.below-open.ensures)
+offset_bounds-open-top g c = let x = c.at_high-top.result in omega (arith, ends c.args.core.now x c.requires (c.at_high-top.ensures x), ap length c.below-open.ensures)
 
 pub slice_bounds-arcs-count : goal.slice_bounds-arcs-count
-slice_bounds-arcs-count g c = let x = c.at_high-top.result in omega (arith, ends c.args.core.now x c.requires.sound c.requires.top (c.at_high-top.ensures x), ap length c.below-open.ensures)
+slice_bounds-arcs-count g c = let x = c.at_high-top.result in omega (arith, ends c.args.core.now x c.requires (c.at_high-top.ensures x), ap length c.below-open.ensures)
 
 pub slice_bounds-arcs-start : goal.slice_bounds-arcs-start
-slice_bounds-arcs-start g c = let x = c.at_high-top.result in omega (arith, ends c.args.core.now x c.requires.sound c.requires.top (c.at_high-top.ensures x), ap length c.below-open.ensures)
+slice_bounds-arcs-start g c = let x = c.at_high-top.result in omega (arith, ends c.args.core.now x c.requires (c.at_high-top.ensures x), ap length c.below-open.ensures)
 
 pub look_up-requires : goal.look_up-requires
 look_up-requires g c =
     let b = c.args.core.now in
-    let so = c.requires.sound in
-    let t = total b.states.cells.now b.states.low b.states.high so.stateroom in
+    let so = b.sound in
+    let t = total b.states.cells.now b.states.low b.states.high b.states.room in
     let n = ap length c.below.ensures in
     record {
       sound = subst (λ (xs : List (Arc g.row.O.Denot)). Placed (length xs) c.below.result.now) (sym c.above.ensures) (subst (Placed (length (highs b.arcs))) (sym c.below.ensures) (packed_placed 0 _ (lows b.states) so.packed));
       known = λ i. omega (arith, so.known i);
       fits = search rules;
-      few = omega (arith, so.used, so.slotroom, c.requires.top);
+      few = omega (arith, so.used, so.slotroom, c.requires);
     }
 
 pub returns : goal.returns
@@ -56,10 +57,10 @@ returns g c =
     let slots = b.slots.now in
     let arcs = arcs_of mean (take (length opens - x.first) (drop x.first opens)) in
     let node : Node g.O.Output.kind.Ideal = record { end = end_of mean x; arcs = arcs } in
-    let w = ends b x c.requires.sound c.requires.top (c.at_high-top.ensures x) in
+    let w = ends b x c.requires (c.at_high-top.ensures x) in
     let part : arcs ≡ take x.count (drop x.first (arcs_of mean L)) = ap (arcs_of mean) (part_to_end opens L x.first x.count c.below-open.ensures w) ∙ arcs_part mean x.count x.first L in
     let top = newest (opened mean b) in
-    let is : node ≡ top = (λ i. record { end = end_of mean x; arcs = part i }) ∙ sym (newest_is (open_record mean (arcs_of mean L)) hs x c.requires.top (c.at_high-top.ensures x)) in
+    let is : node ≡ top = (λ i. record { end = end_of mean x; arcs = part i }) ∙ sym (newest_is (open_record mean (arcs_of mean L)) hs x c.requires (c.at_high-top.ensures x)) in
     let f = closed_state mean (arcs_of mean (highs b.arcs)) in
     let there : (q : ℕ) → q < length below → closed_state mean (arcs_of mean above) (get_or below q x) ≡ state_at (closed_states mean b) q = λ q l.
     ap (λ (es : List (Arc g.row.O.Denot)). closed_state mean (arcs_of mean es) (get_or below q x)) c.above.ensures ∙ ap (λ (ss : List (State g.row.O.Denot)). f (get_or ss q x)) c.below.ensures ∙ sym (get_or-map f (lows b.states) q x _ (omega (arith, ap length c.below.ensures))) in
