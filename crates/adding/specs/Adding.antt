@@ -7,7 +7,7 @@ use Rattle.construction.specs.Records.{newest_key}
 use Rattle.construction.specs.Building.{add}
 use Rattle.construction.specs.Theorems.{AddStorable}
 use Rattle.records.specs.declared.memory.Core.{Core}
-use Rattle.records.specs.Shape.{Sound, openings}
+use Rattle.records.specs.Shape.{openings}
 use Rattle.records.specs.Holding.{held}
 use Rattle.records.specs.Registering.{Registered}
 use Rattle.adding.specs.declared.refusal.AddRefusal.{AddRefusal}

@@ -7,7 +7,8 @@ use Rattle.machines.specs.Keys.{Key}
 use Rattle.construction.specs.Records.{Open, Held, blank}
 use Rattle.construction.specs.Steps.{add_arc, extend_last}
 use Rattle.records.specs.declared.memory.Core.{Core}
-use Rattle.records.specs.Shape.{Led, openings}
+use Rattle.records.specs.Lying.{Led}
+use Rattle.records.specs.Shape.{openings}
 use Rattle.records.specs.Holding.{held}
 use Rattle.pushing.specs.Changes.{Keeps}
 

@@ -1,6 +1,5 @@
 -- The invariants of a builder and of a sealed dictionary are the soundness of their memory. Assumes nothing.
 use Rattle.outputs.specs.declared.output.Output.{Ghosts}
-use Rattle.records.specs.Shape.{Sound}
 use Rattle.records.proofs.Testing.{laid_test, since_test, packed_test}
 use Rattle.adding.specs.Adding.{Ready}
 use Rattle.builder.specs.declared.builder.Builder.{Builder}

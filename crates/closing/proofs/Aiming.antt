@@ -4,7 +4,7 @@ use Rattle.std.proofs.lemmas.List.{take-set-le, drop-set-add, get_or-drop, lengt
 use Rattle.machines.specs.Machines.{Arc as Edge}
 use Rattle.construction.specs.Steps.{aim_last}
 use Rattle.records.specs.declared.record.State.{State}
-use Rattle.records.specs.Shape.{Led}
+use Rattle.records.specs.Lying.{Led}
 use Rattle.records.specs.Holding.{end_of, open_record}
 use Rattle.records.proofs.Cutting.{cut_before}
 use Rattle.records.proofs.Standing.{to_end}

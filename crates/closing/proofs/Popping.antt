@@ -5,7 +5,7 @@ use Rattle.machines.specs.Machines.{Arc as Edge}
 use Rattle.construction.specs.Records.{state_of}
 use Rattle.records.specs.declared.record.State.{State}
 use Rattle.records.specs.declared.record.Arc.{Arc}
-use Rattle.records.specs.Shape.{Led, Laid, Placed}
+use Rattle.records.specs.Lying.{Led, Laid, Placed}
 use Rattle.records.specs.Holding.{arc_of, arcs_of, end_of, closed_state, open_record, counts}
 use Rattle.records.proofs.Standing.{opens_cut, closed_kept, closed_front, to_end}
 
@@ -32,7 +32,7 @@ module _ {O : Type 0} (L : List (Arc O)) (top : State O) (hs : List (State O)) (
     front = arcs_of mean (drop (length L - top.count) L)
 
     abbrev becomes : ℕ → State O
-    becomes first = record { ends = top.ends; end = top.end; count = top.count; first = first; keys = pairs - top.keys }
+    becomes first = record { end = top.end; count = top.count; first = first; keys = pairs - top.keys }
 
     pub longer : length H' ≡ length H + top.count
     longer = ap length settled ∙ simp (length-append, length-drop) (omega (arith, begins))

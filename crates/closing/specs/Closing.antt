@@ -7,14 +7,14 @@ use Rattle.construction.specs.Steps.{aim, enter}
 use Rattle.construction.specs.Building.{close_beyond, sealed_states}
 use Rattle.register.specs.Answers.{Missing}
 use Rattle.records.specs.declared.memory.Core.{Core}
-use Rattle.records.specs.Shape.{Sound, Within, Led, openings, closings}
+use Rattle.records.specs.Lying.{Led}
+use Rattle.records.specs.Shape.{Within, openings, closings}
 use Rattle.records.specs.Holding.{closed, closed_states, opened}
 use Rattle.records.specs.Registering.{state_at, home}
 use Rattle.comparing.specs.Newest.{newest}
 
 -- the newest open record is gone, and the one before it has an arc
 pub record Popped {O : Type 0} (before after : Core O) : Type 0 where
-  pub sound : Sound after
   pub within : Within before after
   pub opens : openings after + 1 ≡ openings before
   pub led : Led (length (lows after.arcs)) (highs after.states)
@@ -71,7 +71,6 @@ aim_newest q (o ∷ os) = aim q o ∷ os
 
 -- the newest arc leads elsewhere, and all else is as it was
 pub record Aimed {O I : Type 0} (mean : O → I) (before after : Core O) (q : ℕ) : Type 0 where
-  pub sound : Sound after
   pub within : Within before after
   pub opens : openings after ≡ openings before
   pub opened : opened mean after ≡ aim_newest q (opened mean before)

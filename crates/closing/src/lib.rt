@@ -3,7 +3,8 @@
 
 ghost use Rattle.std.specs.Prelude.{◌≡◌, ◌+◌, ◌<◌, length};
 ghost use Rattle.stacks.specs.Stacks.{lows, highs};
-ghost use Rattle.records.specs.Shape.{Sound, Within, Led, openings};
+ghost use Rattle.records.specs.Lying.{Led};
+ghost use Rattle.records.specs.Shape.{Within, openings};
 ghost use Rattle.records.specs.Holding.{held};
 ghost use Rattle.records.specs.Registering.{Registered};
 ghost use Rattle.closing.specs.Closing.{Popped, Dropped, Settled, NoEqual, Closes, Aimed, closed_beyond, all_closed};
@@ -12,12 +13,11 @@ use comparing::newest::equal_state;
 use outputs::output::Output;
 use records::memory::Core;
 use records::record::{Arc, State};
-use register::{Probe, enter};
+use register::enter;
 
 // The newest open record is let go with its arcs: a closed state is equal to it.
 pub fn drop_top<'a, O: Output>(core: &mut Core<'a, O>)
-    requires sound { Sound core.old }
-    requires top { 0 < openings core.old }
+    requires { 0 < openings core.old }
     ensures popped { Popped core.old core.new }
     ensures dropped { Dropped O.Output.meaning core.old core.new }
 {
@@ -27,8 +27,7 @@ pub fn drop_top<'a, O: Output>(core: &mut Core<'a, O>)
 
 // The newest open record becomes the next state, whose number is given.
 pub fn settle_top<'a, O: Output>(core: &mut Core<'a, O>) -> u16
-    requires sound { Sound core.old }
-    requires top { 0 < openings core.old }
+    requires { 0 < openings core.old }
     ensures popped { Popped core.old core.new }
     ensures settled { Settled O.Output.meaning core.old core.new result }
 {
@@ -37,19 +36,12 @@ pub fn settle_top<'a, O: Output>(core: &mut Core<'a, O>) -> u16
     core.arcs.settle_all(top.count as usize);
     let first = core.arcs.highs() as u32;
     let keys = core.pairs - top.keys;
-    core.states.push_low(State {
-        ends: top.ends,
-        end: top.end,
-        count: top.count,
-        first,
-        keys,
-    });
+    core.states.push_low(State { first, keys, ..top });
     number
 }
 
 // The newest open record becomes the next state, which is entered in the register.
 pub fn keep_top<'a, O: Output>(core: &mut Core<'a, O>, slot: usize) -> u16
-    requires sound { Sound core.old }
     requires top { 0 < openings core.old }
     requires missing { NoEqual O.Output.digested O.Output.meaning core.old slot }
     ensures popped { Popped core.old core.new }
@@ -63,25 +55,22 @@ pub fn keep_top<'a, O: Output>(core: &mut Core<'a, O>, slot: usize) -> u16
 
 // Closes the newest open record, and gives the number of its state.
 pub fn close_top<'a, O: Output>(core: &mut Core<'a, O>) -> u16
-    requires sound { Sound core.old }
-    requires top { 0 < openings core.old }
+    requires { 0 < openings core.old }
     ensures popped { Popped core.old core.new }
     ensures closes { Registered O.Output.digested O.Output.meaning core.old → Closes O.Output.kind O.Output.meaning core.old core.new result }
     ensures registered { Registered O.Output.digested O.Output.meaning core.old → Registered O.Output.digested O.Output.meaning core.new }
 {
     match equal_state(core) {
-        Probe::Found(number) => {
+        Ok(number) => {
             drop_top(core);
             number
         }
-        Probe::Free(slot) => keep_top(core, slot),
-        Probe::Full => unreachable(),
+        Err(slot) => keep_top(core, slot),
     }
 }
 
 // The newest arc leads to a closed state.
 pub fn lead_to<'a, O: Output>(core: &mut Core<'a, O>, number: u16)
-    requires sound { Sound core.old }
     requires top { 0 < openings core.old }
     requires led { Led (length (lows core.old.arcs)) (highs core.old.states) }
     ensures { Aimed O.Output.meaning core.old core.new number }
@@ -91,18 +80,15 @@ pub fn lead_to<'a, O: Output>(core: &mut Core<'a, O>, number: u16)
     core.arcs.set_low(
         last,
         Arc {
-            byte: arc.byte,
             target: number,
-            output: arc.output,
+            ..arc
         },
     );
 }
 
 // Closes the open records beyond a depth, the deepest first.
 pub fn close_beyond<'a, O: Output>(core: &mut Core<'a, O>, depth: usize)
-    requires sound { Sound core.old }
-    requires opened { depth < openings core.old }
-    ensures sound { Sound core.new }
+    requires { depth < openings core.old }
     ensures registered { Registered O.Output.digested O.Output.meaning core.old → Registered O.Output.digested O.Output.meaning core.new }
     ensures within { Within core.old core.new }
     ensures opens { openings core.new ≡ depth + 1 }
@@ -118,8 +104,6 @@ pub fn close_beyond<'a, O: Output>(core: &mut Core<'a, O>, depth: usize)
 
 // Closes all open records. That of the empty prefix is last, and no equal state is looked for: none has keys as long.
 pub fn close_all<'a, O: Output>(core: &mut Core<'a, O>)
-    requires sound { Sound core.old }
-    ensures sound { Sound core.new }
     ensures opens { openings core.new ≡ 0 }
     ensures holds { Registered O.Output.digested O.Output.meaning core.old → held O.Output.meaning core.new ≡ all_closed O.Output.kind (held O.Output.meaning core.old) }
 {

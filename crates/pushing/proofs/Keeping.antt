@@ -1,7 +1,6 @@
 -- What two steps in a row leave as it was, and what another start output does. Assumes nothing.
 use Rattle.std.proofs.Common.{refl, ◌∙◌}
 use Rattle.records.specs.declared.memory.Core.{Core}
-use Rattle.records.specs.Shape.{Sound}
 use Rattle.pushing.specs.Changes.{Keeps, SameShape}
 
 module _ {O : Type 0} where

@@ -5,7 +5,7 @@ use Rattle.std.proofs.lemmas.List.{length-map, length-reverse, get_or-map, get_o
 use Rattle.machines.specs.Machines.{Arc as Edge}
 use Rattle.construction.specs.Records.{Open}
 use Rattle.records.specs.declared.record.State.{State}
-use Rattle.records.specs.Shape.{Led, Laid}
+use Rattle.records.specs.Lying.{Led, Laid}
 use Rattle.records.specs.Holding.{end_of, open_record}
 use Rattle.records.proofs.Laying.{led_at}
 use Rattle.outputs.specs.Kinds.{Kind}

@@ -6,7 +6,7 @@ use Rattle.machines.specs.Machines.{Arc as Edge}
 use Rattle.construction.specs.Records.{Open, blank}
 use Rattle.records.specs.declared.record.State.{State}
 use Rattle.records.specs.declared.memory.Core.{Core}
-use Rattle.records.specs.Shape.{Sound, openings}
+use Rattle.records.specs.Shape.{openings}
 use Rattle.records.specs.Holding.{arcs_of, end_of, held}
 use Rattle.pushing.specs.Altering.{alter, alter_range}
 

@@ -10,13 +10,13 @@ use Rattle.records.specs.Lying.{Sound, Laid, Since, Packed}
 use Rattle.records.specs.Holding.{arcs_of, closed_state, closed_states, counts, closed}
 use Rattle.records.specs.Registering.{Register, Registered}
 
-module _ {O : Type 0} (b a : Core O) (slots : a.slots.now ≡ b.slots.now) (states : lows a.states ≡ lows b.states) (arcs : highs a.arcs ≡ highs b.arcs) where
-  -- what is closed stands for the same
-  pub closed_still : {I : Type 0} (mean : O → I) → closed mean a ≡ closed mean b
-  closed_still mean = λ i. record { states = map (closed_state mean (arcs_of mean (arcs i))) (states i); counts = counts mean (states i) }
+-- what is closed stands for the same
+module _ {O I : Type 0} (mean : O → I) (b : Core O) {states : List (State O)} {arcs : List (Arc O)} (same_states : states ≡ lows b.states) (same_arcs : arcs ≡ highs b.arcs) where
+  pub closed_still : record { states = map (closed_state mean (arcs_of mean arcs)) states; counts = counts mean states } ≡ closed mean b
+  closed_still = λ i. record { states = map (closed_state mean (arcs_of mean (same_arcs i))) (same_states i); counts = counts mean (same_states i) }
 
-  pub registered_still : {I : Type 0} (digested : I → ℕ) (mean : O → I) → Registered digested mean b → Registered digested mean a
-  registered_still digested mean r = subst (λ ts. Register digested ts (closed_states mean a)) (sym slots) (subst (Register digested b.slots.now) (sym (ap (λ x. x.states) (closed_still mean))) r)
+  pub registered_still : (digested : I → ℕ) {slots : List ℕ} → slots ≡ b.slots.now → Registered digested mean b → Register digested slots (map (closed_state mean (arcs_of mean arcs)) states)
+  registered_still digested same_slots r = subst (λ ts. Register digested ts (map (closed_state mean (arcs_of mean arcs)) states)) (sym same_slots) (subst (Register digested b.slots.now) (sym (ap (λ x. x.states) closed_still)) r)
 
 -- A memory is sound whose closed part is that of a sound one.
 module _ {O : Type 0} (b : Core O) (states : Stacks (State O)) (arcs : Stacks (Arc O)) (slots : List ℕ) (same_slots : slots ≡ b.slots.now) (same_states : lows states ≡ lows b.states) (same_arcs : highs arcs ≡ highs b.arcs) (sc : capacity states ≡ capacity b.states) (ac : capacity arcs ≡ capacity b.arcs) where

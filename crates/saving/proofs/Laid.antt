@@ -12,7 +12,7 @@ use Rattle.images.proofs.ImageLengths.{StorableState, records_short, length_head
 use Rattle.records.specs.declared.record.Arc.{Arc}
 use Rattle.records.specs.declared.record.State.{State}
 use Rattle.records.specs.Holding.{arc_of, arcs_of, closed_state}
-use Rattle.records.specs.Shape.{Packed}
+use Rattle.records.specs.Lying.{Packed}
 use Rattle.saving.specs.declared.rows.Rows.{Rows}
 use Rattle.saving.specs.Standing.{Shaped, counts_of, record_of, records_of, states_of, machine_of}
 

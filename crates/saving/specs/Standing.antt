@@ -6,7 +6,7 @@ use Rattle.images.specs.Images.{record_bits, image_bits}
 use Rattle.records.specs.declared.record.Arc.{Arc}
 use Rattle.records.specs.declared.record.State.{State}
 use Rattle.records.specs.Holding.{arcs_of, closed_state}
-use Rattle.records.specs.Shape.{Packed}
+use Rattle.records.specs.Lying.{Packed}
 use Rattle.saving.specs.declared.rows.Rows.{Rows}
 
 -- How the rows lie, as they do in the memory of a builder that is sealed.

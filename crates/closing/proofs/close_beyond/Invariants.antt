@@ -1,5 +1,5 @@
 use Rattle.std.proofs.Common.{◌≡◌, ◌+◌}
-use Rattle.records.specs.Shape.{Sound, Within, openings}
+use Rattle.records.specs.Shape.{Within, openings}
 use Rattle.records.specs.Holding.{held}
 use Rattle.records.specs.Registering.{Registered}
 use Rattle.closing.specs.Closing.{closed_beyond}

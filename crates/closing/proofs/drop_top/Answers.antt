@@ -2,7 +2,7 @@ use Rattle.std.proofs.Common.{List, ◌∷◌, map, length, sym, refl, ap, ◌�
 use Rattle.stacks.specs.Stacks.{lows, highs}
 use Rattle.construction.specs.Records.{Open}
 use Rattle.records.specs.declared.memory.Core.{Core}
-use Rattle.records.specs.Shape.{Laid, Since}
+use Rattle.records.specs.Lying.{Laid, Since}
 use Rattle.records.specs.Holding.{arcs_of, open_record}
 use Rattle.records.proofs.Laying.{led_laid}
 use Rattle.records.proofs.Moving.{moved, closed_still}
@@ -12,8 +12,8 @@ use Rattle.closing.proofs.drop_top.Goals as goal
 pub returns : goal.returns
 returns g c =
     let mean = g.O.Output.meaning in
-    let so = c.requires.sound in
     let b = c.args.core.now in
+    let so = b.sound in
     let p = c.pop_high-top.ensures in
     let f = c.forget_low.ensures in
     let top = c.pop_high-top.result in
@@ -23,11 +23,9 @@ returns g c =
     let lain : Laid (length L) (top ∷ hs) = subst (Laid (length L)) p.highs so.laid in
     let sin : Since b.pairs (top ∷ hs) = subst (Since b.pairs) p.highs so.since in
     let led = led_left L top hs lain L' f.lows in
-    let a : Core g.row.O.Denot = record { states = c.pop_high-top.new.self; arcs = c.forget_low.new.self; slots = b.slots; pairs = b.pairs; start = b.start } in
     let record_at = open_record mean (arcs_of mean L) in
     record {
       popped = record {
-        sound = moved b a refl p.lows f.highs so p.capacity f.capacity p.room f.room (led_laid _ hs led) sin.1 so.paired;
         within = record { staterooms = p.capacity; arcrooms = f.capacity; states = omega (arith, ap length p.lows, ap length p.highs); arcs = omega (arith, ap length f.highs, left L top hs lain L' f.lows, lain.0) };
         opens = omega (arith, ap length p.highs);
         led = led;
@@ -37,7 +35,19 @@ returns g c =
       dropped = record {
         top = record_at top;
         was = ap (map record_at) p.highs ∙ ap (λ (os : List (Open g.O.Output.kind.Ideal)). record_at top ∷ os) (sym (opens_left L top hs lain L' f.lows mean));
-        closed = closed_still b a refl p.lows f.highs mean;
+        closed = closed_still mean b p.lows f.highs;
         slots = refl;
       };
     }
+
+pub invariant_of-core : goal.invariant_of-core
+invariant_of-core g c =
+    let b = c.args.core.now in
+    let so = b.sound in
+    let p = c.pop_high-top.ensures in
+    let f = c.forget_low.ensures in
+    let top = c.pop_high-top.result in
+    let hs = highs c.pop_high-top.new.self in
+    let lain : Laid (length (lows b.arcs)) (top ∷ hs) = subst (Laid (length (lows b.arcs))) p.highs so.laid in
+    let sin : Since b.pairs (top ∷ hs) = subst (Since b.pairs) p.highs so.since in
+    record { sound = moved b c.pop_high-top.new.self c.forget_low.new.self b.slots.now refl p.lows f.highs p.capacity f.capacity (led_laid _ hs (led_left (lows b.arcs) top hs lain _ f.lows)) sin.1 so.paired }

@@ -3,7 +3,7 @@ use Rattle.std.proofs.lemmas.List.{map-set, length-map, length-set, get_or-map}
 use Rattle.stacks.specs.Stacks.{lows, highs}
 use Rattle.machines.specs.Machines.{Arc as Edge}
 use Rattle.records.specs.declared.memory.Core.{Core}
-use Rattle.records.specs.Shape.{Led, Laid}
+use Rattle.records.specs.Lying.{Led, Laid}
 use Rattle.records.specs.Holding.{arc_of, arcs_of, open_record}
 use Rattle.records.proofs.Laying.{led_some}
 use Rattle.records.proofs.Moving.{moved, closed_still}

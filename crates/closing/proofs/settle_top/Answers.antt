@@ -4,7 +4,7 @@ use Rattle.stacks.specs.Stacks.{lows, highs}
 use Rattle.stacks.proofs.TwoEnds.{total}
 use Rattle.construction.specs.Records.{Open}
 use Rattle.records.specs.declared.record.State.{State}
-use Rattle.records.specs.Shape.{Laid, Led, Since, Packed, Placed}
+use Rattle.records.specs.Lying.{Laid, Led, Since, Packed, Placed}
 use Rattle.records.specs.Holding.{arcs_of, open_record, closed_state, counts}
 use Rattle.records.proofs.Laying.{led_laid, packed_placed, packed_push}
 use Rattle.closing.proofs.Popping.{left, led_left, opens_left, longer, states_after, counts_after}
@@ -43,7 +43,7 @@ returns g c =
     let H' = highs c.settle_all.new.self in
     let ls = lows b.states in
     let first = c.highs-first.result in
-    let t : State g.row.O.Denot = record { ends = top.ends; end = top.end; count = top.count; first = first; keys = b.pairs - top.keys } in
+    let t : State g.row.O.Denot = record { end = top.end; count = top.count; first = first; keys = b.pairs - top.keys } in
     let lain : Laid (length L) (top ∷ hs) = subst (Laid (length L)) p.highs so.laid in
     let sin : Since b.pairs (top ∷ hs) = subst (Since b.pairs) p.highs so.since in
     let placed : Placed (length H) ls = packed_placed 0 (length H) ls so.packed in

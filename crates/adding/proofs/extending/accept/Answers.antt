@@ -1,7 +1,7 @@
 use Rattle.std.proofs.Common.{◌+◌, true, List, map, reverse, length, sym, refl, ap, ◌∙◌, subst, arith, length-set}
 use Rattle.stacks.specs.Stacks.{lows, highs}
 use Rattle.records.specs.declared.record.State.{State}
-use Rattle.records.specs.Shape.{Laid, Since}
+use Rattle.records.specs.Lying.{Laid, Since}
 use Rattle.records.specs.Holding.{arcs_of, open_record}
 use Rattle.records.proofs.Laying.{laid_set, since_set, since_at, since_more}
 use Rattle.records.proofs.Moving.{moved}

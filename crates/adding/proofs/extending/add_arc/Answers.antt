@@ -4,7 +4,7 @@ use Rattle.stacks.specs.Stacks.{lows, highs}
 use Rattle.machines.specs.Machines.{Arc as Edge}
 use Rattle.construction.specs.Steps.{add_arc}
 use Rattle.records.specs.declared.record.State.{State}
-use Rattle.records.specs.Shape.{Led, Laid, Since}
+use Rattle.records.specs.Lying.{Led, Laid, Since}
 use Rattle.records.specs.Holding.{arc_of, arcs_of, end_of, open_record}
 use Rattle.records.proofs.Laying.{laid_at, led_more, led_laid, since_set, since_at}
 use Rattle.records.proofs.Moving.{moved}

@@ -3,7 +3,7 @@ use mathlib.Core.List.{reverse-cons}
 use Rattle.stacks.specs.Stacks.{lows, highs}
 use Rattle.construction.specs.Records.{blank}
 use Rattle.records.specs.declared.record.State.{State}
-use Rattle.records.specs.Shape.{Led, Laid, Since}
+use Rattle.records.specs.Lying.{Led, Laid, Since}
 use Rattle.records.specs.Holding.{arcs_of, open_record}
 use Rattle.records.proofs.Moving.{moved}
 use Rattle.adding.proofs.extending.open_record.Goals as goal

@@ -2,7 +2,7 @@ use Rattle.std.proofs.Common.{◌≡◌, List, [], map, reverse, length, sym, ap
 use Rattle.stacks.specs.Stacks.{lows, highs, capacity}
 use Rattle.register.proofs.Entering.{used_none}
 use Rattle.records.specs.declared.record.State.{State}
-use Rattle.records.specs.Shape.{Laid, Since, Packed}
+use Rattle.records.specs.Lying.{Laid, Since, Packed}
 use Rattle.records.specs.Holding.{arcs_of, closed_state, open_record, counts}
 use Rattle.records.specs.Registering.{Register}
 use Rattle.builder.proofs.lent.fresh.Goals as goal

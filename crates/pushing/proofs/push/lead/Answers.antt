@@ -2,7 +2,7 @@ use Rattle.std.proofs.Common.{◌≡◌, ℕ, ◌+◌, ◌-◌, ◌<◌, List, m
 use Rattle.std.proofs.lemmas.List.{map-set, length-map, length-set, get_or-map}
 use Rattle.stacks.specs.Stacks.{lows, highs}
 use Rattle.machines.specs.Machines.{Arc as Edge}
-use Rattle.records.specs.Shape.{Laid}
+use Rattle.records.specs.Lying.{Laid}
 use Rattle.records.specs.Holding.{arc_of, arcs_of, open_record}
 use Rattle.records.proofs.Moving.{moved}
 use Rattle.pushing.proofs.LastArcs.{with_output}

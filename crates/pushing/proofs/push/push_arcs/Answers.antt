@@ -3,7 +3,7 @@ use Rattle.std.proofs.lemmas.List.{map-set, length-map, length-set, get_or-map}
 use Rattle.stacks.specs.Stacks.{lows, highs}
 use Rattle.outputs.specs.Joins.{join_or_empty}
 use Rattle.machines.specs.Machines.{Arc as Edge}
-use Rattle.records.specs.Shape.{Laid}
+use Rattle.records.specs.Lying.{Laid}
 use Rattle.records.specs.Holding.{arc_of, arcs_of}
 use Rattle.records.proofs.Moving.{moved}
 use Rattle.pushing.specs.Altering.{alter_range}

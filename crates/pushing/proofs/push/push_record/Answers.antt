@@ -3,7 +3,7 @@ use Rattle.stacks.specs.Stacks.{lows, highs}
 use Rattle.outputs.specs.Joins.{join_or_empty}
 use Rattle.machines.specs.Machines.{Arc as Edge}
 use Rattle.records.specs.declared.record.State.{State}
-use Rattle.records.specs.Shape.{Laid, Since}
+use Rattle.records.specs.Lying.{Laid, Since}
 use Rattle.records.specs.Holding.{arcs_of, open_record, held}
 use Rattle.records.proofs.Laying.{laid_set, since_set, since_at}
 use Rattle.records.proofs.Moving.{moved}

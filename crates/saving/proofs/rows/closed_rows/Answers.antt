@@ -2,7 +2,7 @@ use Rattle.std.proofs.Common.{◌≡◌, List, map, length, sym, refl, ap, subst
 use Rattle.stacks.specs.Stacks.{lows, highs}
 use Rattle.stacks.proofs.TwoEnds.{total}
 use Rattle.records.specs.declared.record.Arc.{Arc}
-use Rattle.records.specs.Shape.{Packed}
+use Rattle.records.specs.Lying.{Packed}
 use Rattle.records.specs.Holding.{arcs_of, closed_state}
 use Rattle.saving.proofs.rows.closed_rows.Goals as goal
 
