@@ -1,88 +1,50 @@
 -- The number of an equal closed state: what the construction finds by codes is the one state that is equal. Assumes the kind's laws, that all outputs are storable, and that no two closed states are equal.
-use Rattle.std.proofs.Common.{◌≡◌, ℕ, zero, suc, ◌+◌, ◌<◌, Bool, true, false, cond, ◌&&◌, eqb, List, [], ◌∷◌, map, length, take, drop, sym, refl, ap, ◌∙◌, subst, arith}
+use Rattle.std.proofs.Common.{◌≡◌, ℕ, zero, suc, ◌+◌, ◌<◌, Bool, true, false, List, [], ◌∷◌, map, length, take, drop, sym, refl, ap, ◌∙◌, subst, arith}
+use Rattle.std.specs.Prelude.{Some, None, Option as Maybe}
 use mathlib.Core.Option.{Option, none, some}
-use Rattle.std.proofs.lemmas.Bool.{false≢true, eqb-true, and_parts}
-use Rattle.outputs.specs.Kinds.{Kind, Laws, same}
+use Rattle.std.proofs.lemmas.Bool.{false≢true}
+use Rattle.outputs.specs.Kinds.{Kind, Laws}
+use Rattle.outputs.specs.Meanings.{meant}
 use Rattle.machines.specs.Lists.{Each}
 use Rattle.machines.specs.Machines.{Arc as Edge, State as Node}
-use Rattle.construction.proofs.Comparing.{same_state_self, same_equal}
-use Rattle.construction.specs.Records.{Open, state_of, same_end, same_arcs, same_state, number_from, number_of}
+use Rattle.construction.proofs.Comparing.{same_state_self, same_state_equal}
+use Rattle.construction.specs.Theorems.{EndStorable, StateStorable}
+use Rattle.construction.specs.Records.{Open, state_of, same_state, number_from, number_of}
 use Rattle.records.specs.declared.record.Arc.{Arc}
 use Rattle.records.specs.declared.record.State.{State}
 use Rattle.records.specs.Holding.{arcs_of, end_of, closed_state, open_record}
 use Rattle.records.specs.Registering.{state_at}
 
-abbrev pub StoredEnd : (k : Kind) → Option k.Ideal → Type 0
-StoredEnd k none = Unit {0}
-StoredEnd k (some x) = k.storable x ≡ true
+module _ (k : Kind) (laws : Laws k) (s : Node k.Ideal) (ss : StateStorable k s) where
+  missing_from : (j : ℕ) (ts : List (Node k.Ideal)) → Each (StateStorable k) ts → ((q : ℕ) → q < length ts → s ≡ state_at ts q → ⊥) → number_from k j s ts ≡ none
+  missing_from j [] st other = refl
+  missing_from j (t ∷ ts) st other = go (same_state k s t) refl (missing_from (suc j) ts st.1 (λ q h. other (suc q) (omega arith)))
+    where
+      go : (b : Bool) → same_state k s t ≡ b → number_from k (suc j) s ts ≡ none → ◌≡◌ {A = Option ℕ} (elim b [ true ↦ some j | false ↦ number_from k (suc j) s ts ]) none
+      go true e later = absurd (other 0 (omega arith) (same_state_equal k laws s t ss st.0 e))
+      go false e later = later
 
-abbrev pub StoredArcs : (k : Kind) → List (Edge k.Ideal) → Type 0
-StoredArcs k es = Each (λ (e : Edge k.Ideal). k.storable e.output ≡ true) es
+  -- no state is equal
+  pub number_missing : (ts : List (Node k.Ideal)) → Each (StateStorable k) ts → ((q : ℕ) → q < length ts → s ≡ state_at ts q → ⊥) → number_of k s ts ≡ none
+  number_missing ts st other = missing_from 0 ts st other
 
--- every output of a state is storable
-pub record Stored (k : Kind) (s : Node k.Ideal) : Type 0 where
-  pub end : StoredEnd k s.end
-  pub arcs : StoredArcs k s.arcs
+  found_from : (j r : ℕ) (ts : List (Node k.Ideal)) (q : ℕ) → Each (StateStorable k) ts → ((p p' : ℕ) → p < p' → p' < length ts → state_at ts p ≡ state_at ts p' → ⊥) → q < length ts → s ≡ state_at ts q → r ≡ j + q → number_from k j s ts ≡ some r
+  found_from j r [] q st distinct h e w = absurd (omega arith)
+  found_from j r (t ∷ ts) zero st distinct h e w = go (same_state k s t) refl
+    where
+      go : (b : Bool) → same_state k s t ≡ b → ◌≡◌ {A = Option ℕ} (elim b [ true ↦ some j | false ↦ number_from k (suc j) s ts ]) (some r)
+      go true f = let o : j ≡ r = omega arith in ap {B = Option ℕ} (λ n. some n) o
+      go false f = absurd (false≢true (sym f ∙ subst (λ x. same_state k s x ≡ true) e (same_state_self k s)))
+  found_from j r (t ∷ ts) (suc q) st distinct h e w =
+      go (same_state k s t) refl (found_from (suc j) r ts q st.1 (λ p p' l m. distinct (suc p) (suc p') (omega arith) (omega arith)) (omega arith) e (omega arith))
+    where
+      go : (b : Bool) → same_state k s t ≡ b → number_from k (suc j) s ts ≡ some r → ◌≡◌ {A = Option ℕ} (elim b [ true ↦ some j | false ↦ number_from k (suc j) s ts ]) (some r)
+      go true f later = absurd (distinct 0 (suc q) (omega arith) h (sym (same_state_equal k laws s t ss st.0 f) ∙ e))
+      go false f later = later
 
-module _ (k : Kind) where
-  module _ (laws : Laws k) where
-    same_end_true : (x y : Option k.Ideal) → StoredEnd k x → StoredEnd k y → same_end k x y ≡ true → x ≡ y
-    same_end_true none none sx sy e = refl
-    same_end_true none (some y) sx sy e = absurd (false≢true e)
-    same_end_true (some x) none sx sy e = absurd (false≢true e)
-    same_end_true (some x) (some y) sx sy e = ap {B = Option k.Ideal} (λ z. some z) (same_equal k laws x y sx sy e)
-
-    same_arcs_true : (es fs : List (Edge k.Ideal)) → StoredArcs k es → StoredArcs k fs → same_arcs k es fs ≡ true → es ≡ fs
-    same_arcs_true [] [] se sf t = refl
-    same_arcs_true [] (f ∷ fs) se sf t = absurd (false≢true t)
-    same_arcs_true (e ∷ es) [] se sf t = absurd (false≢true t)
-    same_arcs_true (e ∷ es) (f ∷ fs) se sf t =
-        let all = and_parts (eqb e.byte f.byte && eqb e.target f.target && same k e.output f.output) (same_arcs k es fs) t in
-        let one = and_parts (eqb e.byte f.byte && eqb e.target f.target) (same k e.output f.output) all.0 in
-        let way = and_parts (eqb e.byte f.byte) (eqb e.target f.target) one.0 in
-        let byte = eqb-true e.byte f.byte way.0 in
-        let target = eqb-true e.target f.target way.1 in
-        let output = same_equal k laws e.output f.output se.0 sf.0 one.1 in
-        let rest = same_arcs_true es fs se.1 sf.1 all.1 in
-        λ i. record { byte = byte i; target = target i; output = output i } ∷ rest i
-
-    same_state_true : (s t : Node k.Ideal) → Stored k s → Stored k t → same_state k s t ≡ true → s ≡ t
-    same_state_true s t ss st e =
-        let p = and_parts (same_end k s.end t.end) (same_arcs k s.arcs t.arcs) e in
-        let end = same_end_true s.end t.end ss.end st.end p.0 in
-        let arcs = same_arcs_true s.arcs t.arcs ss.arcs st.arcs p.1 in
-        λ i. record { end = end i; arcs = arcs i }
-
-    module _ (s : Node k.Ideal) (ss : Stored k s) where
-      missing_from : (j : ℕ) (ts : List (Node k.Ideal)) → Each (Stored k) ts → ((q : ℕ) → q < length ts → s ≡ state_at ts q → ⊥) → number_from k j s ts ≡ none
-      missing_from j [] st other = refl
-      missing_from j (t ∷ ts) st other = go (same_state k s t) refl (missing_from (suc j) ts st.1 (λ q h. other (suc q) (omega arith)))
-        where
-          go : (b : Bool) → same_state k s t ≡ b → number_from k (suc j) s ts ≡ none → ◌≡◌ {A = Option ℕ} (elim b [ true ↦ some j | false ↦ number_from k (suc j) s ts ]) none
-          go true e later = absurd (other 0 (omega arith) (same_state_true s t ss st.0 e))
-          go false e later = later
-
-      -- no state is equal
-      pub number_missing : (ts : List (Node k.Ideal)) → Each (Stored k) ts → ((q : ℕ) → q < length ts → s ≡ state_at ts q → ⊥) → number_of k s ts ≡ none
-      number_missing ts st other = missing_from 0 ts st other
-
-      found_from : (j r : ℕ) (ts : List (Node k.Ideal)) (q : ℕ) → Each (Stored k) ts → ((p p' : ℕ) → p < p' → p' < length ts → state_at ts p ≡ state_at ts p' → ⊥) → q < length ts → s ≡ state_at ts q → r ≡ j + q → number_from k j s ts ≡ some r
-      found_from j r [] q st distinct h e w = absurd (omega arith)
-      found_from j r (t ∷ ts) zero st distinct h e w = go (same_state k s t) refl
-        where
-          go : (b : Bool) → same_state k s t ≡ b → ◌≡◌ {A = Option ℕ} (elim b [ true ↦ some j | false ↦ number_from k (suc j) s ts ]) (some r)
-          go true f = let o : j ≡ r = omega arith in ap {B = Option ℕ} (λ n. some n) o
-          go false f = absurd (false≢true (sym f ∙ subst (λ x. same_state k s x ≡ true) e (same_state_self k s)))
-      found_from j r (t ∷ ts) (suc q) st distinct h e w =
-          go (same_state k s t) refl (found_from (suc j) r ts q st.1 (λ p p' l m. distinct (suc p) (suc p') (omega arith) (omega arith)) (omega arith) e (omega arith))
-        where
-          go : (b : Bool) → same_state k s t ≡ b → number_from k (suc j) s ts ≡ some r → ◌≡◌ {A = Option ℕ} (elim b [ true ↦ some j | false ↦ number_from k (suc j) s ts ]) (some r)
-          go true f later = absurd (distinct 0 (suc q) (omega arith) h (sym (same_state_true s t ss st.0 f) ∙ e))
-          go false f later = later
-
-      -- state q is equal, and no other is
-      pub number_found : (ts : List (Node k.Ideal)) (q : ℕ) → Each (Stored k) ts → ((p p' : ℕ) → p < p' → p' < length ts → state_at ts p ≡ state_at ts p' → ⊥) → q < length ts → s ≡ state_at ts q → number_of k s ts ≡ some q
-      number_found ts q st distinct h e = found_from 0 q ts q st distinct h e (omega arith)
+  -- state q is equal, and no other is
+  pub number_found : (ts : List (Node k.Ideal)) (q : ℕ) → Each (StateStorable k) ts → ((p p' : ℕ) → p < p' → p' < length ts → state_at ts p ≡ state_at ts p' → ⊥) → q < length ts → s ≡ state_at ts q → number_of k s ts ≡ some q
+  number_found ts q st distinct h e = found_from 0 q ts q st distinct h e (omega arith)
 
 module _ {X : Type 0} (Q : X → Type 0) where
   each_take : (n : ℕ) (xs : List X) → Each Q xs → Each Q (take n xs)
@@ -97,28 +59,31 @@ module _ {X : Type 0} (Q : X → Type 0) where
 
 -- what lies in memory is storable
 module _ (k : Kind) {O : Type 0} (mean : O → k.Ideal) (stored : (x : O) → k.storable (mean x) ≡ true) where
-  stored_end : (s : State O) → StoredEnd k (end_of mean s)
-  stored_end s = go s.ends
+  stored_end : (s : State O) → EndStorable k (end_of mean s)
+  stored_end s = go s.end
     where
-      go : (b : Bool) → StoredEnd k (cond b (some (mean s.end)) none)
-      go true = stored s.end
-      go false = tt
+      go : (o : Maybe O) → EndStorable k (meant mean o)
+      go None = tt
+      go (Some x) = stored x
 
-  stored_arcs : (as' : List (Arc O)) → StoredArcs k (arcs_of mean as')
+  abbrev Storable : List (Edge k.Ideal) → Type 0
+  Storable es = Each (λ (e : Edge k.Ideal). k.storable e.output ≡ true) es
+
+  stored_arcs : (as' : List (Arc O)) → Storable (arcs_of mean as')
   stored_arcs [] = tt
   stored_arcs (a ∷ as') = (stored a.output, stored_arcs as')
 
-  stored_part : (m n : ℕ) (as' : List (Arc O)) → StoredArcs k (take m (drop n (arcs_of mean as')))
+  stored_part : (m n : ℕ) (as' : List (Arc O)) → Storable (take m (drop n (arcs_of mean as')))
   stored_part m n as' = each_take _ m (drop n (arcs_of mean as')) (each_drop _ n (arcs_of mean as') (stored_arcs as'))
 
-  pub stored_open : (as' : List (Arc O)) (s : State O) → Stored k (state_of (open_record mean (arcs_of mean as') s))
-  stored_open as' s = record { end = stored_end s; arcs = stored_part s.count s.first as' }
+  pub stored_open : (as' : List (Arc O)) (s : State O) → StateStorable k (state_of (open_record mean (arcs_of mean as') s))
+  stored_open as' s = (stored_end s, stored_part s.count s.first as')
 
-  pub stored_closed : (as' : List (Arc O)) (ss : List (State O)) → Each (Stored k) (map (closed_state mean (arcs_of mean as')) ss)
+  pub stored_closed : (as' : List (Arc O)) (ss : List (State O)) → Each (StateStorable k) (map (closed_state mean (arcs_of mean as')) ss)
   stored_closed as' [] = tt
-  stored_closed as' (s ∷ ss) = (record { end = stored_end s; arcs = stored_part s.count _ as' }, stored_closed as' ss)
+  stored_closed as' (s ∷ ss) = ((stored_end s, stored_part s.count _ as'), stored_closed as' ss)
 
   -- the newest open record, by what it stands for
-  pub stored_top : (as' : List (Arc O)) (ss : List (State O)) (o : Open k.Ideal) (os : List (Open k.Ideal)) → map (open_record mean (arcs_of mean as')) ss ≡ o ∷ os → Stored k (state_of o)
+  pub stored_top : (as' : List (Arc O)) (ss : List (State O)) (o : Open k.Ideal) (os : List (Open k.Ideal)) → map (open_record mean (arcs_of mean as')) ss ≡ o ∷ os → StateStorable k (state_of o)
   stored_top as' [] o os e = let z : ◌≡◌ {A = ℕ} 0 1 = cc in absurd (omega arith)
-  stored_top as' (s ∷ ss) o os e = let w : open_record mean (arcs_of mean as') s ≡ o = cc in subst (λ (x : Open k.Ideal). Stored k (state_of x)) w (stored_open as' s)
+  stored_top as' (s ∷ ss) o os e = let w : open_record mean (arcs_of mean as') s ≡ o = cc in subst (λ (x : Open k.Ideal). StateStorable k (state_of x)) w (stored_open as' s)

@@ -7,7 +7,7 @@ use Rattle.records.specs.declared.record.Arc.{Arc}
 use Rattle.records.specs.declared.record.State.{State}
 use Rattle.records.specs.declared.memory.Core.{Core}
 use Rattle.records.specs.Lying.{Sound, Laid, Since, Packed}
-use Rattle.records.specs.Holding.{arcs_of, closed_state, closed_states, counts, closed}
+use Rattle.records.specs.Holding.{arcs_of, closed_state, counts, closed}
 use Rattle.records.specs.Registering.{Register, Registered}
 
 -- what is closed stands for the same

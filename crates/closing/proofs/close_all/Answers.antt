@@ -23,7 +23,6 @@ returns-then-highs-gt0 g c =
     let empty : opened mean a ≡ [] = nil_from_length (opened mean a) (count_opened mean a ∙ gone) in
     let one : reverse (opened mean m) ≡ s.top ∷ [] = ap reverse (s.was ∙ ap (λ (os : List (Open k.Ideal)). s.top ∷ os) empty) in
     record {
-      sound = p.sound;
       opens = gone;
       holds = λ reg.
           let last = sealed_at_last k b.pairs (mean b.start) (closed mean b) (reverse (opened mean b)) (held mean m) s.top some_open (h.holds reg) one in
@@ -36,4 +35,4 @@ returns-else-highs-gt0 g c =
     let mean = g.O.Output.meaning in
     let b = c.args.core.now in
     let gone : openings b ≡ 0 = omega (arith, c.highs.ensures, c.if-highs-gt0.false) in
-    record { sound = c.requires.sound; opens = gone; holds = λ reg. sealed_empty k b.pairs (mean b.start) (closed mean b) (opened mean b) (count_opened mean b ∙ gone) }
+    record { opens = gone; holds = λ reg. sealed_empty k b.pairs (mean b.start) (closed mean b) (opened mean b) (count_opened mean b ∙ gone) }

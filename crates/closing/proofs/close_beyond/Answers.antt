@@ -12,8 +12,8 @@ use Rattle.closing.proofs.close_beyond.Goals as goal
 pub overflow_add-kept : goal.overflow_add-kept
 overflow_add-kept g c =
     let s = c.args.core.now.states in
-    let t = total s.cells.now s.low s.high c.requires.sound.stateroom in
-    let m : c.args.depth + 1 < 65537 = omega (arith, c.requires.sound.few, c.requires.opened) in search rules
+    let t = total s.cells.now s.low s.high s.room in
+    let m : c.args.depth + 1 < 65537 = omega (arith, c.args.core.now.sound.few, c.requires) in search rules
 
 pub loop-preserved : goal.loop-preserved
 loop-preserved g c =
@@ -29,28 +29,27 @@ loop-preserved g c =
     let p = c.close_top-number.ensures.popped in
     let l = c.lead_to.ensures in
     let n : length (opened mean m) ≡ openings m = count_opened mean m in
-    let deep : depth < length (opened mean m) = omega (arith, n, p.opens, inv.3, c.loop-test.true, c.highs-end.ensures) in
+    let deep : depth < length (opened mean m) = omega (arith, n, p.opens, inv.2, c.loop-test.true, c.highs-end.ensures) in
     let is : held mean a ≡ hold k b.pairs (mean b.start) (closed mean m) (reverse (aim_newest q (opened mean m))) =
     let st = l.start ∙ p.start in
     let pr = l.pairs ∙ p.pairs in
     λ i. record { closed = l.closed i; open' = reverse (l.opened i); start = mean (st i); pairs = pr i } in
     let states : closed_states mean a ≡ closed_states mean m = ap (λ (x : Closed k.Ideal). x.states) l.closed in (
-      l.sound,
-      λ reg. subst (λ (xs : List ℕ). Register dig xs (closed_states mean a)) (sym l.slots) (subst (Register dig m.slots.now) (sym states) (c.close_top-number.ensures.registered (inv.1 reg))),
+      λ reg. subst (λ (xs : List ℕ). Register dig xs (closed_states mean a)) (sym l.slots) (subst (Register dig m.slots.now) (sym states) (c.close_top-number.ensures.registered (inv.0 reg))),
       record {
-        staterooms = l.within.staterooms ∙ p.within.staterooms ∙ inv.2.staterooms;
-        arcrooms = l.within.arcrooms ∙ p.within.arcrooms ∙ inv.2.arcrooms;
-        states = omega (arith, l.within.states, p.within.states, inv.2.states);
-        arcs = omega (arith, l.within.arcs, p.within.arcs, inv.2.arcs);
+        staterooms = l.within.staterooms ∙ p.within.staterooms ∙ inv.1.staterooms;
+        arcrooms = l.within.arcrooms ∙ p.within.arcrooms ∙ inv.1.arcrooms;
+        states = omega (arith, l.within.states, p.within.states, inv.1.states);
+        arcs = omega (arith, l.within.arcs, p.within.arcs, inv.1.arcs);
       },
-      omega (arith, l.opens, p.opens, inv.3),
+      omega (arith, l.opens, p.opens, inv.2),
       λ reg.
-          let t = c.close_top-number.ensures.closes (inv.1 reg) in
+          let t = c.close_top-number.ensures.closes (inv.0 reg) in
           let was : held mean b ≡ hold k b.pairs (mean b.start) (closed mean b) (reverse (t.top ∷ opened mean m)) =
           λ i. record { closed = closed mean b; open' = reverse (t.was i); start = mean b.start; pairs = b.pairs } in
           let step = beyond_step k b.pairs (mean b.start) (closed mean b) depth t.top (opened mean m) q (closed mean m) deep t.entered in
-          ap (closed_beyond k depth) is ∙ step ∙ sym (ap (closed_beyond k depth) was) ∙ inv.4 reg,
-      l.pairs ∙ p.pairs ∙ inv.5,
+          ap (closed_beyond k depth) is ∙ step ∙ sym (ap (closed_beyond k depth) was) ∙ inv.3 reg,
+      l.pairs ∙ p.pairs ∙ inv.4,
     )
 
 pub returns : goal.returns
@@ -60,12 +59,11 @@ returns g c =
     let a = c.loop.core in
     let inv = c.loop.invariant in
     let n : length (opened mean a) ≡ openings a = count_opened mean a in
-    let done : openings a ≡ c.args.depth + 1 = omega (arith, inv.3, c.loop-test.false, c.loop.auto.counter-end, c.highs-end.ensures, c.requires.opened) in
+    let done : openings a ≡ c.args.depth + 1 = omega (arith, inv.2, c.loop-test.false, c.loop.auto.counter-end, c.highs-end.ensures, c.requires) in
     record {
-      sound = inv.0;
-      registered = inv.1;
-      within = inv.2;
+      registered = inv.0;
+      within = inv.1;
       opens = done;
-      pairs = inv.5;
-      holds = λ reg. sym (beyond_none k a.pairs (mean a.start) (closed mean a) c.args.depth (opened mean a) (omega (arith, n, done))) ∙ inv.4 reg;
+      pairs = inv.4;
+      holds = λ reg. sym (beyond_none k a.pairs (mean a.start) (closed mean a) c.args.depth (opened mean a) (omega (arith, n, done))) ∙ inv.3 reg;
     }

@@ -7,8 +7,7 @@ use Rattle.closing.proofs.close_beyond.Given as goal
 
 abbrev pub invariant-loop : goal.invariant-loop
 invariant-loop g l =
-    Sound l.core
-    × (Registered g.O.Output.digested g.O.Output.meaning l.initial.core → Registered g.O.Output.digested g.O.Output.meaning l.core)
+    (Registered g.O.Output.digested g.O.Output.meaning l.initial.core → Registered g.O.Output.digested g.O.Output.meaning l.core)
     × Within l.initial.core l.core
     × (openings l.core + l.counter ≡ openings l.initial.core + (l.depth + 1))
     × (Registered g.O.Output.digested g.O.Output.meaning l.initial.core → closed_beyond g.O.Output.kind l.depth (held g.O.Output.meaning l.core) ≡ closed_beyond g.O.Output.kind l.depth (held g.O.Output.meaning l.initial.core))

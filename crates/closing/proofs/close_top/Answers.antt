@@ -10,8 +10,8 @@ use Rattle.closing.proofs.Finding.{stored_top, stored_closed, number_found}
 use Rattle.closing.proofs.Entering.{enter_found}
 use Rattle.closing.proofs.close_top.Goals as goal
 
-pub returns-in-Found : goal.returns-in-Found
-returns-in-Found g c =
+pub returns-in-Ok : goal.returns-in-Ok
+returns-in-Ok g c =
     let k = g.O.Output.kind in
     let mean = g.O.Output.meaning in
     let dig = g.O.Output.digested in
@@ -19,8 +19,8 @@ returns-in-Found g c =
     let a = c.drop_top.new.core in
     let d = c.drop_top.ensures.dropped in
     let ts = closed_states mean b in
-    let q = c.in-Found.number in
-    let told = c.in-Found.ensures in
+    let q = c.in-Ok.number in
+    let told = c.in-Ok.ensures in
     let n : length ts ≡ closings b = count_closed mean b in
     let top : newest (opened mean b) ≡ state_of d.top = ap newest d.was in
     let states : closed_states mean a ≡ ts = ap (λ (x : Closed k.Ideal). x.states) d.closed in

@@ -1,7 +1,6 @@
 use Rattle.std.proofs.Common.{List, ◌∷◌, map, length, sym, refl, ap, ◌∙◌, subst, arith}
 use Rattle.stacks.specs.Stacks.{lows, highs}
 use Rattle.construction.specs.Records.{Open}
-use Rattle.records.specs.declared.memory.Core.{Core}
 use Rattle.records.specs.Lying.{Laid, Since}
 use Rattle.records.specs.Holding.{arcs_of, open_record}
 use Rattle.records.proofs.Laying.{led_laid}

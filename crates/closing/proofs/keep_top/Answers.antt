@@ -21,11 +21,11 @@ enter-requires g c =
     let b = c.args.core.now in
     let s = c.settle_top-number.ensures.settled in
     let hole = c.requires.missing.hole in
-    let t = total b.states.cells.now b.states.low b.states.high c.requires.sound.stateroom in
+    let t = total b.states.cells.now b.states.low b.states.high b.states.room in
     record {
       within = omega (arith, hole.within, ap length s.slots);
       free = ap (λ (ts : List ℕ). get_or ts c.args.slot 0) s.slots ∙ hole.free;
-      fits = omega (arith, s.next, c.requires.sound.few, c.requires.top);
+      fits = omega (arith, s.next, b.sound.few, c.requires.top);
     }
 
 pub returns : goal.returns
@@ -41,7 +41,6 @@ returns g c =
     let number = c.settle_top-number.result in
     let slots = b.slots.now in
     let slots' = c.enter.new.slots in
-    let so = p.sound in
     let ts = closed_states mean b in
     let n : length ts ≡ closings b = count_closed mean b in
     let all : number ≡ length ts = s.next ∙ sym n in
@@ -57,19 +56,6 @@ returns g c =
     let hole = c.requires.missing.hole in
     record {
       popped = record {
-        sound = record {
-          stateroom = so.stateroom;
-          arcroom = so.arcroom;
-          few = so.few;
-          arcfew = so.arcfew;
-          slotroom = omega (arith, so.slotroom, ap length s.slots, wide);
-          laid = so.laid;
-          since = so.since;
-          packed = so.packed;
-          known = λ j. omega (arith, one, ap (λ (xs : List ℕ). get_or xs j 0) written, known_set slots c.args.slot (number + 1) (closings b) c.requires.sound.known hole.within (omega (arith, s.next)) j);
-          used = omega (arith, one, ap used written, used_set slots c.args.slot number hole.within hole.free, c.requires.sound.used);
-          paired = so.paired;
-        };
         within = record { staterooms = p.within.staterooms; arcrooms = p.within.arcrooms; states = p.within.states; arcs = p.within.arcs };
         opens = p.opens;
         led = p.led;
@@ -85,4 +71,39 @@ returns g c =
             entered = enter_new k b.pairs (closed mean b) s.top none_there ∙ (λ i. (sym all i, sym s.closed i));
           };
       registered = λ reg. subst (Register dig slots') (sym states) (register_more ts (state_of s.top) dig slots slots' c.args.slot number all wide reg missing new kept);
+    }
+
+pub invariant_of-core : goal.invariant_of-core
+invariant_of-core g c =
+    let k = g.O.Output.kind in
+    let mean = g.O.Output.meaning in
+    let dig = g.O.Output.digested in
+    let b = c.args.core.now in
+    let m = c.settle_top-number.new.core in
+    let p = c.settle_top-number.ensures.popped in
+    let s = c.settle_top-number.ensures.settled in
+    let e = c.enter.ensures in
+    let number = c.settle_top-number.result in
+    let slots = b.slots.now in
+    let slots' = c.enter.new.slots in
+    let ts = closed_states mean b in
+    let n : length ts ≡ closings b = count_closed mean b in
+    let written : slots' ≡ set slots c.args.slot (number + 1) = e.written ∙ ap (λ (xs : List ℕ). set xs c.args.slot (number + 1)) s.slots in
+    let wide : length slots' ≡ length slots = ap length written ∙ length-set slots c.args.slot (number + 1) in
+    let states : closed_states mean m ≡ ts ++ (state_of s.top ∷ []) = ap (λ (x : Closed k.Ideal). x.states) s.closed in
+    let one : closings m ≡ closings b + 1 = sym (count_closed mean m) ∙ ap length states ∙ length_push ts (state_of s.top) ∙ ap (λ (j : ℕ). j + 1) n in
+    let hole = c.requires.missing.hole in
+    let so = m.sound in
+    record {
+      sound = record {
+        few = so.few;
+        arcfew = so.arcfew;
+        slotroom = omega (arith, so.slotroom, ap length s.slots, wide);
+        laid = so.laid;
+        since = so.since;
+        packed = so.packed;
+        known = λ j. omega (arith, one, ap (λ (xs : List ℕ). get_or xs j 0) written, known_set slots c.args.slot (number + 1) (closings b) b.sound.known hole.within (omega (arith, s.next)) j);
+        used = omega (arith, one, ap used written, used_set slots c.args.slot number hole.within hole.free, b.sound.used);
+        paired = so.paired;
+      };
     }

@@ -2,7 +2,6 @@ use Rattle.std.proofs.Common.{◌≡◌, ℕ, ◌-◌, ◌<◌, List, map, lengt
 use Rattle.std.proofs.lemmas.List.{map-set, length-map, length-set, get_or-map}
 use Rattle.stacks.specs.Stacks.{lows, highs}
 use Rattle.machines.specs.Machines.{Arc as Edge}
-use Rattle.records.specs.declared.memory.Core.{Core}
 use Rattle.records.specs.Lying.{Led, Laid}
 use Rattle.records.specs.Holding.{arc_of, arcs_of, open_record}
 use Rattle.records.proofs.Laying.{led_some}
@@ -14,16 +13,16 @@ pub overflow_sub-last : goal.overflow_sub-last
 overflow_sub-last g c = let b = c.args.core.now in omega (arith, led_some _ (highs b.states) c.requires.top c.requires.led, c.lows-last.ensures)
 
 pub at_low-arc-requires : goal.at_low-arc-requires
-at_low-arc-requires g c = let b = c.args.core.now in record { room = c.requires.sound.arcroom; fits = omega (arith, led_some _ (highs b.states) c.requires.top c.requires.led, c.lows-last.ensures) }
+at_low-arc-requires g c = let b = c.args.core.now in omega (arith, led_some _ (highs b.states) c.requires.top c.requires.led, c.lows-last.ensures)
 
 pub set_low-requires : goal.set_low-requires
-set_low-requires g c = let b = c.args.core.now in record { room = c.requires.sound.arcroom; fits = omega (arith, led_some _ (highs b.states) c.requires.top c.requires.led, c.lows-last.ensures) }
+set_low-requires g c = let b = c.args.core.now in omega (arith, led_some _ (highs b.states) c.requires.top c.requires.led, c.lows-last.ensures)
 
 pub returns : goal.returns
 returns g c =
     let mean = g.O.Output.meaning in
     let b = c.args.core.now in
-    let so = c.requires.sound in
+    let so = b.sound in
     let s = c.set_low.ensures in
     let L = lows b.arcs in
     let es = arcs_of mean L in
@@ -33,18 +32,26 @@ returns g c =
     let some_arc : 0 < length L = led_some _ (highs b.states) c.requires.top c.requires.led in
     let k : i < length L = omega (arith, c.lows-last.ensures) in
     let n : length es ≡ length L = length-map L (arc_of mean) in
-    let a : Core g.row.O.Denot = record { states = b.states; arcs = c.set_low.new.self; slots = b.slots; pairs = b.pairs; start = b.start } in
-    let l : length (lows a.arcs) ≡ length L = ap length s.lows ∙ length-set L i _ in
+    let a = c.set_low.new.self in
+    let l : length (lows a) ≡ length L = ap length s.lows ∙ length-set L i _ in
     let at : arc_of mean x ≡ get_or es i (arc_of mean x) = ap (arc_of mean) (c.at_low-arc.ensures x) ∙ sym (get_or-map (arc_of mean) L i x (arc_of mean x) k) in
-    let written : arcs_of mean (lows a.arcs) ≡ set es i (aimed q (arc_of mean x)) = ap (arcs_of mean) s.lows ∙ map-set (arc_of mean) L i _ in
+    let written : arcs_of mean (lows a) ≡ set es i (aimed q (arc_of mean x)) = ap (arcs_of mean) s.lows ∙ map-set (arc_of mean) L i _ in
     let led : Led (length es) (highs b.states) = subst (λ (m : ℕ). Led m (highs b.states)) (sym n) c.requires.led in
     record {
-      sound = moved b a refl refl s.highs so refl s.capacity so.stateroom s.room (subst (λ (m : ℕ). Laid m (highs b.states)) (sym l) so.laid) so.since so.paired;
       within = record { staterooms = refl; arcrooms = s.capacity; states = omega arith; arcs = omega (arith, l, ap length s.highs) };
       opens = refl;
       opened = ap (λ (r : List (Edge g.O.Output.kind.Ideal)). map (open_record mean r) (highs b.states)) written ∙ opens_aimed q mean es i (arc_of mean x) (omega (arith, n, c.lows-last.ensures)) at (highs b.states) led;
-      closed = closed_still b a refl refl s.highs mean;
+      closed = closed_still mean b refl s.highs;
       slots = refl;
       pairs = refl;
       start = refl;
     }
+
+pub invariant_of-core : goal.invariant_of-core
+invariant_of-core g c =
+    let b = c.args.core.now in
+    let so = b.sound in
+    let s = c.set_low.ensures in
+    let a = c.set_low.new.self in
+    let l : length (lows a) ≡ length (lows b.arcs) = ap length s.lows ∙ length-set (lows b.arcs) (c.lows-last.result - 1) _ in
+    record { sound = moved b b.states a b.slots.now refl refl s.highs refl s.capacity (subst (λ (m : ℕ). Laid m (highs b.states)) (sym l) so.laid) so.since so.paired }

@@ -14,24 +14,24 @@ pub overflow_cast-first : goal.overflow_cast-first
 overflow_cast-first g c =
     let a = c.settle_all.new.self in
     let e = c.settle_all.ensures in
-    let t = total a.cells.now a.low a.high e.room in
-    let m : c.highs-first.result < 131072 = omega (arith, c.highs-first.ensures, e.capacity, c.requires.sound.arcfew) in
+    let t = total a.cells.now a.low a.high a.room in
+    let m : c.highs-first.result < 131072 = omega (arith, c.highs-first.ensures, e.capacity, c.args.core.now.sound.arcfew) in
     search rules
 
 pub push_low-requires : goal.push_low-requires
 push_low-requires g c =
     let s = c.args.core.now.states in
     let e = c.pop_high-top.ensures in
-    let t = total s.cells.now s.low s.high c.requires.sound.stateroom in
+    let t = total s.cells.now s.low s.high s.room in
     let h = ap length e.highs in
     let l = ap length e.lows in
-    record { room = e.room; fits = omega (arith, e.capacity) }
+    omega (arith, e.capacity)
 
 pub returns : goal.returns
 returns g c =
     let mean = g.O.Output.meaning in
-    let so = c.requires.sound in
     let b = c.args.core.now in
+    let so = b.sound in
     let p = c.pop_high-top.ensures in
     let a = c.settle_all.ensures in
     let u = c.push_low.ensures in
@@ -56,19 +56,6 @@ returns g c =
     let record_at = open_record mean (arcs_of mean L) in
     record {
       popped = record {
-        sound = record {
-          stateroom = u.room;
-          arcroom = a.room;
-          few = omega (arith, so.few, u.capacity, p.capacity);
-          arcfew = omega (arith, so.arcfew, a.capacity);
-          slotroom = omega (arith, so.slotroom, u.capacity, p.capacity);
-          laid = led_laid (length L') (highs c.push_low.new.self) led;
-          since = subst (Since b.pairs) (sym hs') sin.1;
-          packed = subst (Packed 0 (length H')) (sym ls') (packed_push 0 (length H) (length H') ls t so.packed c.highs-first.ensures more);
-          known = λ i. omega (arith, so.known i, n);
-          used = omega (arith, so.used, n);
-          paired = so.paired;
-        };
         within = record { staterooms = u.capacity ∙ p.capacity; arcrooms = a.capacity; states = omega (arith, n, o); arcs = omega (arith, more, left L top hs lain L' a.lows, lain.0) };
         opens = sym o;
         led = led;
@@ -84,5 +71,45 @@ returns g c =
             λ i. record { states = sa i; counts = ca i };
         next = c.lows-number.ensures;
         slots = refl;
+      };
+    }
+
+pub invariant_of-core : goal.invariant_of-core
+invariant_of-core g c =
+    let mean = g.O.Output.meaning in
+    let b = c.args.core.now in
+    let so = b.sound in
+    let p = c.pop_high-top.ensures in
+    let a = c.settle_all.ensures in
+    let u = c.push_low.ensures in
+    let top = c.pop_high-top.result in
+    let hs = highs c.pop_high-top.new.self in
+    let L = lows b.arcs in
+    let L' = lows c.settle_all.new.self in
+    let H = highs b.arcs in
+    let H' = highs c.settle_all.new.self in
+    let ls = lows b.states in
+    let first = c.highs-first.result in
+    let t : State g.row.O.Denot = record { end = top.end; count = top.count; first = first; keys = b.pairs - top.keys } in
+    let lain : Laid (length L) (top ∷ hs) = subst (Laid (length L)) p.highs so.laid in
+    let sin : Since b.pairs (top ∷ hs) = subst (Since b.pairs) p.highs so.since in
+    let placed : Placed (length H) ls = packed_placed 0 (length H) ls so.packed in
+    let more : length H' ≡ length H + top.count = longer L top hs lain mean H H' a.highs ls placed b.pairs in
+    let hs' : highs c.push_low.new.self ≡ hs = u.highs in
+    let ls' : lows c.push_low.new.self ≡ ls ++ (t ∷ []) = u.lows ∙ ap (λ (x : List (State g.row.O.Denot)). x ++ (t ∷ [])) p.lows in
+    let n : length (lows c.push_low.new.self) ≡ length ls + 1 = ap length ls' ∙ length_push ls t in
+    let o : length (highs b.states) ≡ length (highs c.push_low.new.self) + 1 = ap length p.highs ∙ omega (arith, ap length hs') in
+    let led : Led (length L') (highs c.push_low.new.self) = subst (Led (length L')) (sym hs') (led_left L top hs lain L' a.lows) in
+    record {
+      sound = record {
+        few = omega (arith, so.few, u.capacity, p.capacity);
+        arcfew = omega (arith, so.arcfew, a.capacity);
+        slotroom = omega (arith, so.slotroom, u.capacity, p.capacity);
+        laid = led_laid (length L') (highs c.push_low.new.self) led;
+        since = subst (Since b.pairs) (sym hs') sin.1;
+        packed = subst (Packed 0 (length H')) (sym ls') (packed_push 0 (length H) (length H') ls t so.packed c.highs-first.ensures more);
+        known = λ i. omega (arith, so.known i, n);
+        used = omega (arith, so.used, n);
+        paired = so.paired;
       };
     }
