@@ -1,4 +1,3 @@
 pub mod Allowed
-pub mod Whole
 pub mod Standing
 pub mod Octets

@@ -1,7 +1,6 @@
 //! What is asked of a sealed dictionary.
 ghost use Rattle.std.specs.Prelude.{◌≡◌};
 ghost use Rattle.machines.specs.Pairs.{Pairs};
-ghost use Rattle.records.specs.Shape.{Sound};
 ghost use Rattle.records.specs.Holding.{held};
 ghost use Rattle.builder.specs.Building.{Counted};
 ghost use Rattle.builder.specs.Standing.{SealedOf, CountsOf};
@@ -16,13 +15,6 @@ impl<'a, O: Output> Sealed<'a, O> {
         ensures held { Counted (held O.Output.meaning self.now.core) result }
         ensures counts { (P : Pairs O.Output.kind.Ideal) → SealedOf O.Output.kind O.Output.meaning self.now.core P → CountsOf O.Output.kind P result }
     {
-        self.count_closed()
-    }
-
-    fn count_closed(&self) -> Counts
-        ensures held { Counted (held O.Output.meaning self.now.core) result }
-        ensures counts { (P : Pairs O.Output.kind.Ideal) → SealedOf O.Output.kind O.Output.meaning self.now.core P → CountsOf O.Output.kind P result }
-    {
         Counts {
             states: self.core.states.lows(),
             arcs: self.core.arcs.highs(),
@@ -31,8 +23,7 @@ impl<'a, O: Output> Sealed<'a, O> {
 
     /// The memory, for those who read it.
     pub fn memory(&self) -> &Core<'a, O>
-        ensures core { result.now ≡ self.now.core }
-        ensures sound { Sound result.now }
+        ensures { result.now ≡ self.now.core }
     {
         &self.core
     }

@@ -15,9 +15,12 @@ ghost use Rattle.builder.specs.Refusals.{Seals, UnlessTaken};
 ghost use Rattle.builder.specs.Standing.{Stands, SealedOf};
 
 use super::{Builder, Sealed};
+use crate::lent::{clear, usable};
 use crate::refusal::SealRefusal;
 use adding::refusal::AddRefusal;
+use closing::close_all;
 use outputs::output::Output;
+use records::memory::Core;
 use records::record::{Arc, State};
 
 impl<'a, O: Output> Builder<'a, O> {
@@ -33,7 +36,11 @@ impl<'a, O: Output> Builder<'a, O> {
         ensures holds { held O.Output.meaning result.core ≡ nothing_held O.Output.kind }
         ensures stands { Stands O.Output.kind O.Output.meaning O.Output.digested result.core (allowed (length states.old) (length arcs.old) (length slots.old)) (length arcs.old) [] }
     {
-        Builder::begin(states, arcs, slots)
+        let n = usable(states.len(), arcs.len(), slots.len());
+        let m = arcs.len().min(131071);
+        clear(slots);
+        let core = Core::new(&mut states[..n], &mut arcs[..m], slots);
+        Builder { core }
     }
 
     /// Takes a pair, or refuses it with the first reason that applies after the pairs taken, and leaves all as it was.
@@ -45,7 +52,7 @@ impl<'a, O: Output> Builder<'a, O> {
         ensures unchanged { UnlessTaken result (self.new.core ≡ self.old.core) }
         ensures octets { all_bytes key.now ≡ true }
     {
-        self.take(key, output)
+        adding::add::add(&mut self.core, key, output)
     }
 
     /// Whether there is a pair to seal.
@@ -53,7 +60,10 @@ impl<'a, O: Output> Builder<'a, O> {
         ensures seals { Seals self.now.core.pairs result }
         ensures pairs { (states arcs : ℕ) (P : Pairs O.Output.kind.Ideal) → Stands O.Output.kind O.Output.meaning O.Output.digested self.now.core states arcs P → Seals (length P) result }
     {
-        self.find_pair()
+        if self.core.pairs == 0 {
+            return Err(SealRefusal::NoPair);
+        }
+        Ok(())
     }
 
     /// Closes all that is open, and gives the sealed dictionary: the minimal machine of the pairs taken. Its `counts` are the numbers of states and arcs.
@@ -61,6 +71,9 @@ impl<'a, O: Output> Builder<'a, O> {
         ensures closed { Registered O.Output.digested O.Output.meaning self.entry.core → held O.Output.meaning result.core ≡ all_closed O.Output.kind (held O.Output.meaning self.entry.core) }
         ensures sealed { (states arcs : ℕ) (P : Pairs O.Output.kind.Ideal) → Stands O.Output.kind O.Output.meaning O.Output.digested self.entry.core states arcs P → SealedOf O.Output.kind O.Output.meaning result.core P }
     {
-        self.close()
+        let Builder { core } = self;
+        let mut core = core;
+        close_all(&mut core);
+        Sealed { core }
     }
 }

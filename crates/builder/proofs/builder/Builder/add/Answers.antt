@@ -1,30 +1,6 @@
-use Rattle.records.proofs.Testing.{test_laid, test_since, test_packed}
 use Rattle.builder.proofs.Octets.{slice_octets}
 use Rattle.builder.proofs.Standing.{stands_after, refused_unchanged}
-use Rattle.builder.proofs.Whole.{builder_ready}
-use Rattle.builder.proofs.builder.Builder.take.Goals as goal
-
-pub add-requires : goal.add-requires
-add-requires g c = record { ready = builder_ready c.args.self.now }
-
-pub invariant_of-self : goal.invariant_of-self
-invariant_of-self g c =
-    let r = c.add.ensures.ready in
-    let s = r.sound in
-    record {
-      stateroom = s.stateroom;
-      arcroom = s.arcroom;
-      few = s.few;
-      arcfew = s.arcfew;
-      slotroom = s.slotroom;
-      lain = test_laid _ _ s.laid;
-      begun = test_since _ _ s.since;
-      tight = test_packed _ _ _ s.packed;
-      known = s.known;
-      taken = s.used;
-      paired = s.paired;
-      first = r.first;
-    }
+use Rattle.builder.proofs.builder.Builder.add.Goals as goal
 
 pub returns : goal.returns
 returns g c =

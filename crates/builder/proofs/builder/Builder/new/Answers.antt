@@ -1,17 +1,16 @@
 use Rattle.std.proofs.Common.{length, sym, ap, ◌∙◌, arith}
 use Rattle.std.proofs.lemmas.List.{length-take-le}
 use Rattle.construction.specs.Records.{Held}
-use Rattle.records.proofs.Testing.{test_laid, test_since, test_packed}
 use Rattle.builder.proofs.Allowed.{used_within, used_arcs}
-use Rattle.builder.proofs.builder.Builder.begin.Goals as goal
+use Rattle.builder.proofs.builder.Builder.new.Goals as goal
 
-pub slice_bounds-fresh-end : goal.slice_bounds-fresh-end
-slice_bounds-fresh-end g c =
+pub slice_bounds-new-end : goal.slice_bounds-new-end
+slice_bounds-new-end g c =
     let u = used_within (length c.args.states.now) (length c.args.arcs.now) (length c.args.slots.now) in
     sym (length-take-le c.usable-n.result c.args.states.now (omega (arith, u.0, c.usable-n.ensures)))
 
-pub fresh-core-requires : goal.fresh-core-requires
-fresh-core-requires g c =
+pub new-core-requires : goal.new-core-requires
+new-core-requires g c =
     let u = used_within (length c.args.states.now) (length c.args.arcs.now) (length c.args.slots.now) in
     let s = length-take-le c.usable-n.result c.args.states.now (omega (arith, u.0, c.usable-n.ensures)) in
     let a = length-take-le c.min-m.result c.args.arcs.now (omega (arith, c.min-m.ensures)) in
@@ -23,27 +22,11 @@ fresh-core-requires g c =
     }
 
 pub invariant_of-result : goal.invariant_of-result
-invariant_of-result g c =
-    let e = c.fresh-core.ensures in
-    let s = e.sound in
-    record {
-      stateroom = s.stateroom;
-      arcroom = s.arcroom;
-      few = s.few;
-      arcfew = s.arcfew;
-      slotroom = s.slotroom;
-      lain = test_laid _ _ s.laid;
-      begun = test_since _ _ s.since;
-      tight = test_packed _ _ _ s.packed;
-      known = s.known;
-      taken = s.used;
-      paired = s.paired;
-      first = λ z. ap (λ (h : Held g.O.Output.kind.Ideal). h.pairs) e.holds;
-    }
+invariant_of-result g c = record { first = λ z. ap (λ (h : Held g.O.Output.kind.Ideal). h.pairs) c.new-core.ensures.holds }
 
 pub returns : goal.returns
 returns g c =
-    let e = c.fresh-core.ensures in
+    let e = c.new-core.ensures in
     let states = length c.args.states.now in
     let arcs = length c.args.arcs.now in
     let slots = length c.args.slots.now in
