@@ -35,7 +35,7 @@ impl<'b, O: Output> Wanted for Newest<'b, O> {
     fn same(&self, q: u16) -> bool {
         let state = state_at(self.states, q as usize);
         same_end(&self.state, &state)
-            && same_arcs(self.arcs, arcs_at(self.closed, state.first, state.count))
+            && same_arcs(self.arcs, state.closed_arcs(self.closed))
     }
 }
 
@@ -44,16 +44,6 @@ fn state_at<O: Output>(states: &[State<O>], q: usize) -> State<O>
     ensures { (e : _) → result ≡ slice_index_or states.now q e }
 {
     states[q]
-}
-
-// The arcs of a closed state.
-fn arcs_at<O: Output>(closed: &[Arc<O>], first: u32, count: u32) -> &[Arc<O>]
-    requires first { first ≤ length closed.now }
-    requires count { count ≤ first }
-    ensures { result.now ≡ take count (drop (length closed.now - first) closed.now) }
-{
-    let from = closed.len() - first as usize;
-    &closed[from..from + count as usize]
 }
 
 // The closed state that is equal to the newest open record, or, as the error, the free slot for it.

@@ -1,4 +1,5 @@
 // An arc and a state as they lie in memory.
+ghost use Rattle.std.specs.Prelude.{◌≡◌, ◌-◌, ◌≤◌, length, take, drop};
 
 // An arc of a closed or an open state.
 #[derive(Clone, Copy)]
@@ -22,4 +23,16 @@ pub struct State<O> {
     pub first: u32,
     // Of an open record the number of pairs taken before it was opened; of a closed state the number of keys accepted from it.
     pub keys: u32,
+}
+
+impl<O> State<O> {
+    // The arcs of a closed state, among those of all.
+    pub fn closed_arcs<'b>(&self, arcs: &'b [Arc<O>]) -> &'b [Arc<O>]
+        requires first { self.now.first ≤ length arcs.now }
+        requires count { self.now.count ≤ self.now.first }
+        ensures { result.now ≡ take self.now.count (drop (length arcs.now - self.now.first) arcs.now) }
+    {
+        let from = arcs.len() - self.first as usize;
+        &arcs[from..from + self.count as usize]
+    }
 }

@@ -1,6 +1,7 @@
 -- What the shape of rows says of their states, arcs and records. Assumes that outputs are storable.
-use Rattle.std.proofs.Common.{◌≡◌, ℕ, zero, suc, ◌+◌, ◌-◌, ◌*◌, ◌^◌, ◌<◌, ◌≤◌, Bool, true, false, cond, List, [], ◌∷◌, map, length, take, drop, sym, refl, ap, ◌∙◌, arith, length-drop, length-take}
-use mathlib.Core.Option.{none, some}
+use Rattle.std.proofs.Common.{◌≡◌, ℕ, zero, suc, ◌+◌, ◌-◌, ◌*◌, ◌^◌, ◌<◌, ◌≤◌, Bool, List, [], ◌∷◌, map, length, take, drop, sym, refl, ap, ◌∙◌, arith, length-drop, length-take}
+use Rattle.std.specs.Prelude.{Some, None, Option as Maybe, is_some}
+use Rattle.outputs.specs.Meanings.{meant}
 use mir.Val.{bool_byte}
 use Rattle.std.proofs.lemmas.List.{length-map}
 use Rattle.outputs.specs.Kinds.{Kind, Laws}
@@ -14,12 +15,12 @@ use Rattle.records.specs.declared.record.State.{State}
 use Rattle.records.specs.Holding.{arc_of, arcs_of, closed_state}
 use Rattle.records.specs.Lying.{Packed}
 use Rattle.saving.specs.declared.rows.Rows.{Rows}
-use Rattle.saving.specs.Standing.{Shaped, counts_of, record_of, records_of, states_of, machine_of}
+use Rattle.saving.specs.Standing.{counts_of, record_of, records_of, states_of, machine_of}
 
 -- the end flag as it is written
-pub flag_of : {I : Type 0} (b : Bool) (x : I) → bool_byte b ≡ end_flag (cond b (some x) none)
-flag_of true x = refl
-flag_of false x = refl
+pub flag_of : {O I : Type 0} (mean : O → I) (o : Maybe O) → bool_byte (is_some o) ≡ end_flag (meant mean o)
+flag_of mean None = refl
+flag_of mean (Some x) = refl
 
 packed_within : {O : Type 0} (a n : ℕ) (ss : List (State O)) → Packed a n ss → a ≤ n
 packed_within a n [] p = omega (arith, p)
@@ -54,16 +55,16 @@ module _ (k : Kind) {O : Type 0} (mean : O → k.Ideal) where
   records_same as' [] = refl
   records_same as' (s ∷ ss) = ap (λ (rs : List (List Bool)). record_of k mean as' s ∷ rs) (records_same as' ss)
 
-  pub arcs_counted : (rows : Rows O) → Shaped rows → count_arcs (states_of k mean rows) ≡ length rows.arcs.now
-  arcs_counted rows shaped =
+  pub arcs_counted : (rows : Rows O) → count_arcs (states_of k mean rows) ≡ length rows.arcs.now
+  arcs_counted rows =
       let es = arcs_of mean rows.arcs.now in
       let e : length es ≡ length rows.arcs.now = length-map rows.arcs.now (arc_of mean) in
-      omega (arith, packed_arcs mean es 0 (length rows.arcs.now) rows.states.now shaped.packed (omega arith))
+      omega (arith, packed_arcs mean es 0 (length rows.arcs.now) rows.states.now rows.shaped.packed (omega arith))
 
   module _ (laws : Laws k) (stored : (x : O) → k.storable (mean x) ≡ true) where
-    end_stored : (b : Bool) (x : O) → EndStorable k (cond b (some (mean x)) none)
-    end_stored true x = stored x
-    end_stored false x = tt
+    end_stored : (o : Maybe O) → EndStorable k (meant mean o)
+    end_stored None = tt
+    end_stored (Some x) = stored x
 
     arcs_stored : (as' : List (Arc O)) → Each (λ arc. k.storable arc.output ≡ true) (arcs_of mean as')
     arcs_stored [] = tt
@@ -72,9 +73,9 @@ module _ (k : Kind) {O : Type 0} (mean : O → k.Ideal) where
     states_stored : (as' : List (Arc O)) (ss : List (State O)) → Each (StorableState k laws) (map (closed_state mean (arcs_of mean as')) ss)
     states_stored as' [] = tt
     states_stored as' (s ∷ ss) =
-        ((end_stored s.ends s.end, each_take _ s.count _ (each_drop _ (length (arcs_of mean as') - s.first) (arcs_of mean as') (arcs_stored as'))), states_stored as' ss)
+        ((end_stored s.end, each_take _ s.count _ (each_drop _ (length (arcs_of mean as') - s.first) (arcs_of mean as') (arcs_stored as'))), states_stored as' ss)
 
-    module _ (rows : Rows O) (shaped : Shaped rows) where
+    module _ (rows : Rows O) where
       pub image_length : length (image_bits k (machine_of k mean rows) (counts_of rows) rows.keys) ≡
           length (head_bits k (machine_of k mean rows) rows.keys) + 32 * length rows.states.now + length (in_turn (records_of k mean rows.arcs.now rows.states.now))
       image_length =
@@ -97,9 +98,9 @@ module _ (k : Kind) {O : Type 0} (mean : O → k.Ideal) where
             records_short k laws ss (counts_of rows) (states_stored rows.arcs.now rows.states.now),
             ap (λ rs. length (in_turn rs)) (records_same rows.arcs.now rows.states.now),
             length-map rows.states.now (closed_state mean (arcs_of mean rows.arcs.now)),
-            arcs_counted rows shaped,
-            shaped.few_states,
-            shaped.few_arcs,
+            arcs_counted rows,
+            rows.shaped.few_states,
+            rows.shaped.few_arcs,
           )
 
       pub head_small : length (head_bits k (machine_of k mean rows) rows.keys) < 2 ^ 26

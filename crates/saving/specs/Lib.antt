@@ -1,3 +1,4 @@
+pub mod Shape
 pub mod Standing
 pub mod Refusals
 pub mod Saves

@@ -1,20 +1,12 @@
 -- What the rows of a sealed dictionary stand for, by what outputs mean. Assumes nothing.
-use Rattle.std.specs.Prelude.{ℕ, ◌-◌, ◌<◌, Bool, List, map, length}
+use Rattle.std.specs.Prelude.{ℕ, ◌-◌, Bool, List, map, length}
 use Rattle.outputs.specs.Kinds.{Kind}
 use Rattle.machines.specs.Machines.{State as Node, Machine}
 use Rattle.images.specs.Images.{record_bits, image_bits}
 use Rattle.records.specs.declared.record.Arc.{Arc}
 use Rattle.records.specs.declared.record.State.{State}
 use Rattle.records.specs.Holding.{arcs_of, closed_state}
-use Rattle.records.specs.Lying.{Packed}
 use Rattle.saving.specs.declared.rows.Rows.{Rows}
-
--- How the rows lie, as they do in the memory of a builder that is sealed.
-pub record Shaped {O : Type 0} (rows : Rows O) : Type 0 where
-  pub few_states : length rows.states.now < 65536
-  pub few_arcs : length rows.arcs.now < 131072
-  -- the states' arcs are all arcs, one after the other
-  pub packed : Packed 0 (length rows.arcs.now) rows.states.now
 
 -- the number of keys accepted from each state
 abbrev pub counts_of : {O : Type 0} → Rows O → List ℕ

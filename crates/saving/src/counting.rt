@@ -1,7 +1,7 @@
 //! How many bits a part of an image comes to.
 ghost use Rattle.std.specs.Prelude.{◌≡◌, ◌+◌, ◌/◌, ◌^◌, ◌<◌, ◌≤◌, length};
 ghost use Rattle.images.specs.Images.{head_bits};
-ghost use Rattle.saving.specs.Standing.{Shaped, record_of, machine_of, bits_of};
+ghost use Rattle.saving.specs.Standing.{record_of, machine_of, bits_of};
 
 use crate::rows::Rows;
 use crate::writing::{write_head, write_image, write_record};
@@ -23,7 +23,6 @@ pub fn place_behind<O: Output>(state: &State<O>, arcs: &[Arc<O>], place: usize) 
 
 /// The length of the head.
 pub fn head_length<'b, O: Output>(rows: &Rows<'b, O>) -> usize
-    requires shaped { Shaped rows.now }
     ensures { result ≡ length (head_bits O.Output.kind (machine_of O.Output.kind O.Output.meaning rows.now) rows.now.keys) }
 {
     let mut counter = Counter::new();
@@ -33,7 +32,6 @@ pub fn head_length<'b, O: Output>(rows: &Rows<'b, O>) -> usize
 
 /// How many bits the image has.
 pub fn image_length<'b, O: Output>(rows: &Rows<'b, O>) -> usize
-    requires shaped { Shaped rows.now }
     ensures is { result ≡ length (bits_of O.Output.kind O.Output.meaning rows.now) }
     ensures small { result < 2 ^ 26 }
 {
@@ -44,7 +42,6 @@ pub fn image_length<'b, O: Output>(rows: &Rows<'b, O>) -> usize
 
 /// How many bytes the image has.
 pub fn image_bytes<'b, O: Output>(rows: &Rows<'b, O>) -> usize
-    requires shaped { Shaped rows.now }
     ensures { result ≡ (length (bits_of O.Output.kind O.Output.meaning rows.now) + 7) / 8 }
 {
     (image_length(rows) + 7) / 8

@@ -9,7 +9,8 @@ mod storing;
 mod writing;
 
 pub use refusal::SaveRefusal;
-pub use rows::{Rows, closed_rows};
+pub use rows::Rows;
+pub use rows::closed::closed_rows;
 pub use sealed::save_sealed;
 pub use storing::{Saved, save};
 pub use writing::write_image;

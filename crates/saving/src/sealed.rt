@@ -6,7 +6,7 @@ ghost use Rattle.builder.specs.Standing.{SealedOf};
 ghost use Rattle.saving.specs.Saves.{Saves};
 
 use crate::refusal::SaveRefusal;
-use crate::rows::closed_rows;
+use crate::rows::closed::closed_rows;
 use crate::storing::{Saved, save};
 use builder::Sealed;
 use outputs::output::Output;

@@ -2,7 +2,7 @@
 ghost use Rattle.std.specs.Prelude.{◌≡◌, ◌+◌, ◌-◌, ◌/◌, ◌≤◌, ◌++◌, length};
 ghost use Rattle.outputs.specs.Bits.{packed};
 ghost use Rattle.images.specs.Images.{image, image_of};
-ghost use Rattle.saving.specs.Standing.{Shaped, machine_of, counts_of, bits_of};
+ghost use Rattle.saving.specs.Standing.{machine_of, counts_of, bits_of};
 ghost use Rattle.saving.specs.Saves.{Saves, StandsFor};
 
 use crate::counting::image_bytes;
@@ -24,8 +24,7 @@ pub struct Saved {
 
 /// Appends the image to a store with room for it.
 fn append_image<'b, O: Output, S: Store>(rows: &Rows<'b, O>, store: &mut S)
-    requires shaped { Shaped rows.now }
-    requires room { length (S.Store.bytes store.old) + length (packed (bits_of O.Output.kind O.Output.meaning rows.now)) ≤ S.Store.room store.old }
+    requires { length (S.Store.bytes store.old) + length (packed (bits_of O.Output.kind O.Output.meaning rows.now)) ≤ S.Store.room store.old }
     ensures bytes { S.Store.bytes store.new ≡ S.Store.bytes store.old ++ packed (bits_of O.Output.kind O.Output.meaning rows.now) }
     ensures room { S.Store.room store.new ≡ S.Store.room store.old }
     ensures follows { S.Store.follows store.old store.new }
@@ -42,7 +41,6 @@ fn append_checked<'b, O: Output, S: Store>(
     to: Saved,
     spare: usize,
 ) -> Result<Saved, SaveRefusal>
-    requires shaped { Shaped rows.now }
     requires place { to.place ≡ length (S.Store.bytes store.old) }
     requires size { to.length ≡ (length (bits_of O.Output.kind O.Output.meaning rows.now) + 7) / 8 }
     requires spare { spare ≡ S.Store.room store.old - length (S.Store.bytes store.old) }
@@ -68,7 +66,6 @@ pub fn save<'b, O: Output, S: Store>(
     rows: &Rows<'b, O>,
     store: &mut S,
 ) -> Result<Saved, SaveRefusal>
-    requires shaped { Shaped rows.now }
     ensures image { Saves S.Store.bytes S.Store.room (image_of O.Output.kind (machine_of O.Output.kind O.Output.meaning rows.now) (counts_of rows.now) rows.now.keys) rows.now.keys store.old store.new result }
     ensures pairs { (P : _) → StandsFor O.Output.kind O.Output.meaning P rows.now → Saves S.Store.bytes S.Store.room (image O.Output.kind P) (length P) store.old store.new result }
     ensures capacity { S.Store.room store.new ≡ S.Store.room store.old }

@@ -3,7 +3,7 @@ ghost use Rattle.std.specs.Prelude.{◌≡◌, ◌+◌, ◌^◌, ◌<◌, ◌≤
 ghost use Rattle.outputs.specs.Bits.{bits};
 ghost use Rattle.images.specs.Images.{end_code, arc_bits, arcs_bits, record_bits, head_bits, places, index_bits, in_turn};
 ghost use Rattle.records.specs.Holding.{arc_of, arcs_of, end_of};
-ghost use Rattle.saving.specs.Standing.{Shaped, record_of, records_of, machine_of, bits_of};
+ghost use Rattle.saving.specs.Standing.{record_of, records_of, machine_of, bits_of};
 
 use crate::counting::{head_length, place_behind};
 use crate::rows::Rows;
@@ -16,8 +16,8 @@ use records::record::{Arc, State};
 fn write_end<O: Output, K: BitSink>(state: &State<O>, sink: &mut K)
     ensures { K.BitSink.took sink.old (end_code O.Output.kind (end_of O.Output.meaning state.now)) sink.new }
 {
-    if state.ends {
-        state.end.write(sink);
+    if let Some(end) = &state.end {
+        end.write(sink);
     }
 }
 
@@ -58,7 +58,7 @@ fn write_own<O: Output, K: BitSink>(state: &State<O>, own: &[Arc<O>], sink: &mut
     requires own { length own.now ≡ state.now.count }
     ensures { K.BitSink.took sink.old (record_bits O.Output.kind (record { end = end_of O.Output.meaning state.now; arcs = arcs_of O.Output.meaning own.now }) state.now.keys) sink.new }
 {
-    sink.put(u32::from(state.ends), 1);
+    sink.put(u32::from(state.end.is_some()), 1);
     sink.put(state.count, 9);
     sink.put(state.keys, 20);
     write_end(state, sink);
@@ -71,13 +71,11 @@ pub fn write_record<O: Output, K: BitSink>(state: &State<O>, arcs: &[Arc<O>], si
     requires count { state.now.count ≤ state.now.first }
     ensures { K.BitSink.took sink.old (record_of O.Output.kind O.Output.meaning arcs.now state.now) sink.new }
 {
-    let from = arcs.len() - state.first as usize;
-    write_own(state, &arcs[from..from + state.count as usize], sink);
+    write_own(state, state.closed_arcs(arcs), sink);
 }
 
 /// Mark, kind number, states, arcs, keys and the start output.
 pub fn write_head<'b, O: Output, K: BitSink>(rows: &Rows<'b, O>, sink: &mut K)
-    requires shaped { Shaped rows.now }
     ensures { K.BitSink.took sink.old (head_bits O.Output.kind (machine_of O.Output.kind O.Output.meaning rows.now) rows.now.keys) sink.new }
 {
     write_mark(sink);
@@ -90,8 +88,7 @@ pub fn write_head<'b, O: Output, K: BitSink>(rows: &Rows<'b, O>, sink: &mut K)
 
 /// Each record's place in 32 bits, where the first record begins at `base`.
 fn write_index<'b, O: Output, K: BitSink>(rows: &Rows<'b, O>, base: usize, sink: &mut K)
-    requires shaped { Shaped rows.now }
-    requires small { base + length (in_turn (records_of O.Output.kind O.Output.meaning rows.now.arcs.now rows.now.states.now)) < 2 ^ 32 }
+    requires { base + length (in_turn (records_of O.Output.kind O.Output.meaning rows.now.arcs.now rows.now.states.now)) < 2 ^ 32 }
     ensures { K.BitSink.took sink.old (index_bits (places base (records_of O.Output.kind O.Output.meaning rows.now.arcs.now rows.now.states.now))) sink.new }
 {
     let mut place = base;
@@ -103,7 +100,6 @@ fn write_index<'b, O: Output, K: BitSink>(rows: &Rows<'b, O>, base: usize, sink:
 
 /// The records one behind another.
 fn write_records<'b, O: Output, K: BitSink>(rows: &Rows<'b, O>, sink: &mut K)
-    requires shaped { Shaped rows.now }
     ensures { K.BitSink.took sink.old (in_turn (records_of O.Output.kind O.Output.meaning rows.now.arcs.now rows.now.states.now)) sink.new }
 {
     for state in rows.states {
@@ -113,7 +109,6 @@ fn write_records<'b, O: Output, K: BitSink>(rows: &Rows<'b, O>, sink: &mut K)
 
 /// Head, index and records: all bits of the image.
 pub fn write_image<'b, O: Output, K: BitSink>(rows: &Rows<'b, O>, sink: &mut K)
-    requires shaped { Shaped rows.now }
     ensures { K.BitSink.took sink.old (bits_of O.Output.kind O.Output.meaning rows.now) sink.new }
 {
     let base = head_length(rows) + 32 * rows.states.len();

@@ -5,4 +5,4 @@ use Rattle.saving.proofs.counting.head_length.Goals as goal
 pub returns : goal.returns
 returns g c =
     let rows = c.args.rows.now in
-    omega (arith, c.new-counter.ensures, c.write_head.ensures, head_small g.O.Output.kind g.O.Output.meaning g.met.O.Output.lawful g.met.O.Output.stored rows c.requires.shaped)
+    omega (arith, c.new-counter.ensures, c.write_head.ensures, head_small g.O.Output.kind g.O.Output.meaning g.met.O.Output.lawful g.met.O.Output.stored rows)

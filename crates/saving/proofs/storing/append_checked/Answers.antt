@@ -25,10 +25,7 @@ pub append_image-requires : goal.append_image-requires
 append_image-requires g c =
     let old = c.args.store.now in
     let row = bits_of g.O.Output.kind g.O.Output.meaning c.args.rows.now in
-    record {
-      shaped = c.requires.shaped;
-      room = omega (arith, length_packed row, c.requires.place, c.requires.size, c.requires.spare, c.if-spare-to.false, (g.S.Store.sound old).within);
-    }
+    omega (arith, length_packed row, c.requires.place, c.requires.size, c.requires.spare, c.if-spare-to.false, (g.S.Store.sound old).within)
 
 pub returns : goal.returns
 returns g c =

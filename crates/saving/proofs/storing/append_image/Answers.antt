@@ -27,7 +27,7 @@ returns g c =
     let Q : g.row.S.Denot → Type 0 = λ z. g.S.Store.follows z u.store.now in
     let R : g.row.S.Denot → Type 0 = λ z. g.S.Store.follows old z in
     record {
-      bytes = ap bytes ends ∙ given.0 ∙ take_all (room old) (bytes old ++ packed row) (omega (arith, length-append (bytes old) (packed row), c.requires.room));
+      bytes = ap bytes ends ∙ given.0 ∙ take_all (room old) (bytes old ++ packed row) (omega (arith, length-append (bytes old) (packed row), c.requires));
       room = ap room ends ∙ done.room ∙ packs.capacity ∙ ap room begun;
       follows = subst R (sym ends) (subst Q begun (g.S.Store.chained.more _ _ _ grown.grown done.follows.grown));
     }

@@ -9,17 +9,14 @@ use Rattle.saving.proofs.writing.write_image.Goals as goal
 pub overflow_add-base : goal.overflow_add-base
 overflow_add-base g c =
     let rows = c.args.rows.now in
-    let small = image_small g.O.Output.kind g.O.Output.meaning g.met.O.Output.lawful g.met.O.Output.stored rows c.requires.shaped in
-    omega (arith, c.head_length.ensures, small, image_length g.O.Output.kind g.O.Output.meaning g.met.O.Output.lawful g.met.O.Output.stored rows c.requires.shaped)
+    let small = image_small g.O.Output.kind g.O.Output.meaning g.met.O.Output.lawful g.met.O.Output.stored rows in
+    omega (arith, c.head_length.ensures, small, image_length g.O.Output.kind g.O.Output.meaning g.met.O.Output.lawful g.met.O.Output.stored rows)
 
 pub write_index-requires : goal.write_index-requires
 write_index-requires g c =
     let rows = c.args.rows.now in
-    let small = image_small g.O.Output.kind g.O.Output.meaning g.met.O.Output.lawful g.met.O.Output.stored rows c.requires.shaped in
-    record {
-      shaped = c.requires.shaped;
-      small = omega (arith, c.head_length.ensures, small, image_length g.O.Output.kind g.O.Output.meaning g.met.O.Output.lawful g.met.O.Output.stored rows c.requires.shaped);
-    }
+    let small = image_small g.O.Output.kind g.O.Output.meaning g.met.O.Output.lawful g.met.O.Output.stored rows in
+    omega (arith, c.head_length.ensures, small, image_length g.O.Output.kind g.O.Output.meaning g.met.O.Output.lawful g.met.O.Output.stored rows)
 
 pub returns : goal.returns
 returns g c =

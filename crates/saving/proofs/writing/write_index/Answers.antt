@@ -11,18 +11,18 @@ pub overflow_cast-place : goal.overflow_cast-place
 overflow_cast-place g c =
     let rows = c.args.rows.now in
     let f = record_of g.O.Output.kind g.O.Output.meaning rows.arcs.now in
-    omega (arith, c.loop-state.invariant.1, records_within f rows.states.now c.loop-state.state-index, c.requires.small)
+    omega (arith, c.loop-state.invariant.1, records_within f rows.states.now c.loop-state.state-index, c.requires)
 
 pub place_behind-place-requires : goal.place_behind-place-requires
 place_behind-place-requires g c =
     let rows = c.args.rows.now in
     let f = record_of g.O.Output.kind g.O.Output.meaning rows.arcs.now in
     let n = length rows.arcs.now in
-    let p = placed_at n rows.states.now c.loop-state.state-index c.state-item.result (omega arith) (packed_placed 0 n rows.states.now c.requires.shaped.packed) c.state-item.is in
+    let p = placed_at n rows.states.now c.loop-state.state-index c.state-item.result (omega arith) (packed_placed 0 n rows.states.now c.args.rows.now.shaped.packed) c.state-item.is in
     record {
       first = p.0;
       count = p.1;
-      small = omega (arith, c.loop-state.invariant.1, record_within f rows.states.now c.loop-state.state-index c.state-item.result (omega arith) c.state-item.is, c.requires.small);
+      small = omega (arith, c.loop-state.invariant.1, record_within f rows.states.now c.loop-state.state-index c.state-item.result (omega arith) c.state-item.is, c.requires);
     }
 
 pub loop-state-preserved : goal.loop-state-preserved

@@ -10,7 +10,7 @@ pub write_record-requires : goal.write_record-requires
 write_record-requires g c =
     let rows = c.args.rows.now in
     let n = length rows.arcs.now in
-    let p = placed_at n rows.states.now c.loop-state.state-index c.state-item.result (omega arith) (packed_placed 0 n rows.states.now c.requires.shaped.packed) c.state-item.is in
+    let p = placed_at n rows.states.now c.loop-state.state-index c.state-item.result (omega arith) (packed_placed 0 n rows.states.now c.args.rows.now.shaped.packed) c.state-item.is in
     record { first = p.0; count = p.1 }
 
 pub loop-state-preserved : goal.loop-state-preserved

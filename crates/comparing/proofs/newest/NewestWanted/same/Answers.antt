@@ -5,8 +5,8 @@ use Rattle.records.proofs.Laying.{placed_at}
 use Rattle.records.proofs.Cutting.{arcs_part_last}
 use Rattle.comparing.proofs.newest.NewestWanted.same.Goals as goal
 
-pub arcs_at-requires : goal.arcs_at-requires
-arcs_at-requires g c =
+pub closed_arcs-requires : goal.closed_arcs-requires
+closed_arcs-requires g c =
     let s = c.args.self.now in
     let x = c.state_at-state.result in
     let p = placed_at (length s.closed.now) s.states.now c.args.q x c.requires.below c.requires.sound (c.state_at-state.ensures x) in
@@ -20,7 +20,7 @@ returns-then-same_end g c =
     let H = s.closed.now in
     let at : x ≡ get_or s.states.now c.args.q s.state = c.state_at-state.ensures s.state in
     let there : closed_state mean (arcs_of mean H) x ≡ closed_state mean (arcs_of mean H) (get_or s.states.now c.args.q s.state) = ap (closed_state mean (arcs_of mean H)) at in
-    let part : arcs_of mean c.arcs_at.result.now ≡ take x.count (drop (length (arcs_of mean H) - x.first) (arcs_of mean H)) = ap (arcs_of mean) c.arcs_at.ensures ∙ arcs_part_last mean x.count x.first H in
+    let part : arcs_of mean c.closed_arcs.result.now ≡ take x.count (drop (length (arcs_of mean H) - x.first) (arcs_of mean H)) = ap (arcs_of mean) c.closed_arcs.ensures ∙ arcs_part_last mean x.count x.first H in
     record {
       equal = λ t.
           let e = c.same_end.ensures.equal c.if-same_end.true in
