@@ -23,7 +23,7 @@ pub struct Sealed<'a, O> {
 }
 
 /// How many states and arcs a sealed dictionary has.
-#[derive(Clone, Copy)]
+#[derive(Clone, Copy, PartialEq, Eq, Debug)]
 pub struct Counts {
     /// The number of states.
     pub states: usize,

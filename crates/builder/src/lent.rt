@@ -35,7 +35,5 @@ pub fn usable(states: usize, arcs: usize, slots: usize) -> usize
 pub fn clear(slots: &mut [u16])
     ensures { (i : ℕ) → slice_index slots.new i ≡ 0 }
 {
-    for slot in slots.iter_mut() {
-        *slot = 0;
-    }
+    slots.fill(0);
 }

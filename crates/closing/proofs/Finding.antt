@@ -1,18 +1,17 @@
 -- The number of an equal closed state: what the construction finds by codes is the one state that is equal. Assumes the kind's laws, that all outputs are storable, and that no two closed states are equal.
-use Rattle.std.proofs.Common.{◌≡◌, ℕ, zero, suc, ◌+◌, ◌<◌, Bool, true, false, List, [], ◌∷◌, map, length, take, drop, sym, refl, ap, ◌∙◌, subst, arith}
-use Rattle.std.specs.Prelude.{Some, None, Option as Maybe}
+use Rattle.std.proofs.Common.{◌≡◌, ℕ, zero, suc, ◌+◌, ◌<◌, Bool, true, false, List, [], ◌∷◌, map, length, sym, refl, ap, ◌∙◌, subst, arith}
 use mathlib.Core.Option.{Option, none, some}
 use Rattle.std.proofs.lemmas.Bool.{false≢true}
 use Rattle.outputs.specs.Kinds.{Kind, Laws}
-use Rattle.outputs.specs.Meanings.{meant}
 use Rattle.machines.specs.Lists.{Each}
-use Rattle.machines.specs.Machines.{Arc as Edge, State as Node}
+use Rattle.machines.specs.Machines.{State as Node}
 use Rattle.construction.proofs.Comparing.{same_state_self, same_state_equal}
-use Rattle.construction.specs.Theorems.{EndStorable, StateStorable}
+use Rattle.machines.specs.Storing.{StateStorable}
 use Rattle.construction.specs.Records.{Open, state_of, same_state, number_from, number_of}
 use Rattle.records.specs.declared.record.Arc.{Arc}
 use Rattle.records.specs.declared.record.State.{State}
-use Rattle.records.specs.Holding.{arcs_of, end_of, closed_state, open_record}
+use Rattle.records.specs.Holding.{arcs_of, open_record}
+use Rattle.records.proofs.Storing.{stored_open}
 use Rattle.records.specs.Registering.{state_at}
 
 module _ (k : Kind) (laws : Laws k) (s : Node k.Ideal) (ss : StateStorable k s) where
@@ -46,44 +45,7 @@ module _ (k : Kind) (laws : Laws k) (s : Node k.Ideal) (ss : StateStorable k s) 
   pub number_found : (ts : List (Node k.Ideal)) (q : ℕ) → Each (StateStorable k) ts → ((p p' : ℕ) → p < p' → p' < length ts → state_at ts p ≡ state_at ts p' → ⊥) → q < length ts → s ≡ state_at ts q → number_of k s ts ≡ some q
   number_found ts q st distinct h e = found_from 0 q ts q st distinct h e (omega arith)
 
-module _ {X : Type 0} (Q : X → Type 0) where
-  each_take : (n : ℕ) (xs : List X) → Each Q xs → Each Q (take n xs)
-  each_take zero xs h = tt
-  each_take (suc n) [] h = tt
-  each_take (suc n) (x ∷ xs) h = (h.0, each_take n xs h.1)
-
-  each_drop : (n : ℕ) (xs : List X) → Each Q xs → Each Q (drop n xs)
-  each_drop zero xs h = h
-  each_drop (suc n) [] h = tt
-  each_drop (suc n) (x ∷ xs) h = each_drop n xs h.1
-
--- what lies in memory is storable
-module _ (k : Kind) {O : Type 0} (mean : O → k.Ideal) (stored : (x : O) → k.storable (mean x) ≡ true) where
-  stored_end : (s : State O) → EndStorable k (end_of mean s)
-  stored_end s = go s.end
-    where
-      go : (o : Maybe O) → EndStorable k (meant mean o)
-      go None = tt
-      go (Some x) = stored x
-
-  abbrev Storable : List (Edge k.Ideal) → Type 0
-  Storable es = Each (λ (e : Edge k.Ideal). k.storable e.output ≡ true) es
-
-  stored_arcs : (as' : List (Arc O)) → Storable (arcs_of mean as')
-  stored_arcs [] = tt
-  stored_arcs (a ∷ as') = (stored a.output, stored_arcs as')
-
-  stored_part : (m n : ℕ) (as' : List (Arc O)) → Storable (take m (drop n (arcs_of mean as')))
-  stored_part m n as' = each_take _ m (drop n (arcs_of mean as')) (each_drop _ n (arcs_of mean as') (stored_arcs as'))
-
-  pub stored_open : (as' : List (Arc O)) (s : State O) → StateStorable k (state_of (open_record mean (arcs_of mean as') s))
-  stored_open as' s = (stored_end s, stored_part s.count s.first as')
-
-  pub stored_closed : (as' : List (Arc O)) (ss : List (State O)) → Each (StateStorable k) (map (closed_state mean (arcs_of mean as')) ss)
-  stored_closed as' [] = tt
-  stored_closed as' (s ∷ ss) = ((stored_end s, stored_part s.count _ as'), stored_closed as' ss)
-
-  -- the newest open record, by what it stands for
-  pub stored_top : (as' : List (Arc O)) (ss : List (State O)) (o : Open k.Ideal) (os : List (Open k.Ideal)) → map (open_record mean (arcs_of mean as')) ss ≡ o ∷ os → StateStorable k (state_of o)
-  stored_top as' [] o os e = let z : ◌≡◌ {A = ℕ} 0 1 = cc in absurd (omega arith)
-  stored_top as' (s ∷ ss) o os e = let w : open_record mean (arcs_of mean as') s ≡ o = cc in subst (λ (x : Open k.Ideal). StateStorable k (state_of x)) w (stored_open as' s)
+-- the newest open record, by what it stands for
+pub stored_top : (k : Kind) {O : Type 0} (mean : O → k.Ideal) (stored : (x : O) → k.storable (mean x) ≡ true) (as' : List (Arc O)) (ss : List (State O)) (o : Open k.Ideal) (os : List (Open k.Ideal)) → map (open_record mean (arcs_of mean as')) ss ≡ o ∷ os → StateStorable k (state_of o)
+stored_top k mean stored as' [] o os e = let z : ◌≡◌ {A = ℕ} 0 1 = cc in absurd (omega arith)
+stored_top k mean stored as' (s ∷ ss) o os e = let w : open_record mean (arcs_of mean as') s ≡ o = cc in subst (λ (x : Open k.Ideal). StateStorable k (state_of x)) w (stored_open k mean stored as' s)

@@ -34,8 +34,7 @@ impl<'b, O: Output> Wanted for Newest<'b, O> {
 
     fn same(&self, q: u16) -> bool {
         let state = state_at(self.states, q as usize);
-        same_end(&self.state, &state)
-            && same_arcs(self.arcs, state.closed_arcs(self.closed))
+        same_end(&self.state, &state) && same_arcs(self.arcs, state.closed_arcs(self.closed))
     }
 }
 

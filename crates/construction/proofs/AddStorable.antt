@@ -19,7 +19,8 @@ use Rattle.machines.proofs.PrefixLaws.{rest_storable}
 use Rattle.construction.specs.Records.{Open, Closed, newest_key}
 use Rattle.construction.specs.Steps.{aim_last, push_end, push_arc, push, last_output}
 use Rattle.construction.specs.Building.{close_beyond, held_after}
-use Rattle.construction.specs.Theorems.{EndStorable, JoinsEnd, Joins, PushStorable, AlongStorable, AddStorable}
+use Rattle.machines.specs.Storing.{EndStorable}
+use Rattle.construction.specs.Theorems.{JoinsEnd, Joins, PushStorable, AlongStorable, AddStorable}
 use Rattle.construction.proofs.Lists.{each_append, each_left, in_right}
 use Rattle.construction.proofs.OneMore.{leaves, up_to_newest}
 use Rattle.construction.proofs.SortedPrefixes.{beyond}

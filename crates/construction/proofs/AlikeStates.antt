@@ -25,7 +25,7 @@ use Rattle.machines.proofs.ClassNumbers.{class_residual}
 use Rattle.machines.proofs.Targets.{each_arc, next_prefix, bytes_rests}
 use Rattle.machines.proofs.Distinct.{residual_ascending}
 use Rattle.construction.specs.Records.{same_state}
-use Rattle.construction.specs.Theorems.{EndStorable, StateStorable}
+use Rattle.machines.specs.Storing.{EndStorable, StateStorable}
 use Rattle.construction.proofs.Comparing.{same_state_self, same_state_equal}
 
 module _ (k : Kind) (laws : Laws k) where

@@ -10,7 +10,8 @@ use Rattle.machines.proofs.Lists.{each_map}
 use Rattle.construction.specs.Records.{Open, Closed, state_of, same_state, number_from, number_of}
 use Rattle.construction.specs.Steps.{aim_last, aim, enter, settle}
 use Rattle.construction.specs.Building.{close_beyond}
-use Rattle.construction.specs.Theorems.{StateStorable, Different, ClosedSound}
+use Rattle.machines.specs.Storing.{StateStorable}
+use Rattle.construction.specs.Theorems.{Different, ClosedSound}
 use Rattle.construction.proofs.Lists.{each_append, each_both}
 use Rattle.construction.proofs.Comparing.{same_state_self, same_state_equal}
 

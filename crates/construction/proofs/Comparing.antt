@@ -9,7 +9,7 @@ use Rattle.machines.specs.Machines.{Arc, State}
 use Rattle.machines.proofs.Classes.{same_bits_refl}
 use Rattle.machines.proofs.CommonOutputs.{same_bits_true, code_injective}
 use Rattle.construction.specs.Records.{same_end, same_arcs, same_state}
-use Rattle.construction.specs.Theorems.{EndStorable, StateStorable}
+use Rattle.machines.specs.Storing.{EndStorable, StateStorable}
 
 module _ (k : Kind) where
   -- what is equal compares as equal

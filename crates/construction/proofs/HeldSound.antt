@@ -19,7 +19,8 @@ use Rattle.machines.proofs.Covering.{at_left}
 use Rattle.machines.proofs.OneMore.{newest_some}
 use Rattle.construction.specs.Records.{same_state}
 use Rattle.construction.specs.Building.{held_after}
-use Rattle.construction.specs.Theorems.{StateStorable, OpenStorable, Different, ArcsSound, OpenBelow, HeldSound}
+use Rattle.machines.specs.Storing.{StateStorable}
+use Rattle.construction.specs.Theorems.{OpenStorable, Different, ArcsSound, OpenBelow, HeldSound}
 use Rattle.construction.proofs.Lists.{each_image}
 use Rattle.construction.proofs.Closing.{aim_storable, same_state_turn}
 use Rattle.construction.proofs.SortedPrefixes.{beyond}

@@ -9,6 +9,7 @@ use Rattle.machines.specs.Pairs.{Pairs}
 use Rattle.machines.specs.Minimal.{minimal, key_counts}
 use Rattle.machines.specs.Memory.{newest, held_states, held_arcs}
 use Rattle.machines.specs.Numbering.{Rising}
+use Rattle.machines.specs.Storing.{StateStorable}
 use Rattle.construction.specs.Records.{Open, Closed, Held, state_of, newest_key, open_arcs, same_state}
 use Rattle.construction.specs.Steps.{enter, settle, push, last_output}
 use Rattle.construction.specs.Building.{close_beyond, add, held_after, sealed, sealed_states}
@@ -32,17 +33,8 @@ OpenBelow n (o ∷ []) = Each (λ arc. arc.target < n) o.arcs
 OpenBelow n (o ∷ next ∷ more) = (0 < length o.arcs) × OthersBelow n o.arcs × OpenBelow n (next ∷ more)
 
 module _ (k : Kind) where
-  -- an end output, if there is one, is storable
-  abbrev pub EndStorable : Option k.Ideal → Type 0
-  EndStorable none = Unit {0}
-  EndStorable (some x) = k.storable x ≡ true
-
-  -- all outputs of a state are storable
-  abbrev pub StateStorable : State k.Ideal → Type 0
-  StateStorable s = EndStorable s.end × Each (λ arc. k.storable arc.output ≡ true) s.arcs
-
   abbrev pub OpenStorable : Open k.Ideal → Type 0
-  OpenStorable o = StateStorable (state_of o)
+  OpenStorable o = StateStorable k (state_of o)
 
   -- no two states are equal
   abbrev pub Different : List (State k.Ideal) → Type 0
@@ -52,7 +44,7 @@ module _ (k : Kind) where
   -- What holds of closed states at all times: no two are equal, their outputs are storable, and each has its number of keys.
   pub record ClosedSound (closed : Closed k.Ideal) : Type 0 where
     pub different : Different closed.states
-    pub storable : Each StateStorable closed.states
+    pub storable : Each (StateStorable k) closed.states
     pub counted : length closed.counts ≡ length closed.states
 
   -- x can be put in front of an end output, if there is one
@@ -91,7 +83,7 @@ module _ (k : Kind) where
     pub output_self : (x : k.Ideal) → same k x x ≡ true
     pub output_equal : (x y : k.Ideal) → k.storable x ≡ true → k.storable y ≡ true → same k x y ≡ true → x ≡ y
     pub state_self : (s : State k.Ideal) → same_state k s s ≡ true
-    pub state_equal : (s t : State k.Ideal) → StateStorable s → StateStorable t → same_state k s t ≡ true → s ≡ t
+    pub state_equal : (s t : State k.Ideal) → StateStorable k s → StateStorable k t → same_state k s t ≡ true → s ≡ t
 
   -- Closing storable records keeps the closed states sound.
   pub record ClosingSound : Type 0 where

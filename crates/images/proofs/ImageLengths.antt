@@ -7,7 +7,8 @@ use Rattle.outputs.specs.BitRows.{length_bits}
 use Rattle.machines.specs.Lists.{at, Each}
 use Rattle.machines.specs.Machines.{Arc, State, Machine, count_arcs, end_flag}
 use Rattle.images.specs.Images.{mark, end_code, arc_bits, arcs_bits, record_bits, records_bits, places, index_bits, in_turn, head_bits, image_bits}
-use Rattle.images.specs.Fits.{EndStorable, Fit}
+use Rattle.machines.specs.Storing.{EndStorable, StateStorable}
+use Rattle.images.specs.Fits.{Fit}
 use Rattle.images.proofs.IndexReads.{length_index, length_places, length_records}
 
 -- what holds at every place holds of each
@@ -52,10 +53,7 @@ module _ (k : Kind) (laws : Laws k) where
       )
 
   -- an image can hold the outputs of a state
-  abbrev pub StorableState : State k.Ideal → Type 0
-  StorableState s = EndStorable k s.end × Each (λ arc. k.storable arc.output ≡ true) s.arcs
-
-  pub records_short : (ss : List (State k.Ideal)) (ns : List ℕ) → Each StorableState ss → length (in_turn (records_bits k ss ns)) ≤ 286 * length ss + 280 * count_arcs ss
+  pub records_short : (ss : List (State k.Ideal)) (ns : List ℕ) → Each (StateStorable k) ss → length (in_turn (records_bits k ss ns)) ≤ 286 * length ss + 280 * count_arcs ss
   records_short [] ns h = omega arith
   records_short (s ∷ ss) [] h = omega arith
   records_short (s ∷ ss) (n ∷ ns) h =
@@ -92,8 +90,8 @@ module _ (k : Kind) (laws : Laws k) where
       omega (arith, length-append (h ++ index_bits ps) (in_turn rows), length-append h (index_bits ps), length_index ps, length_places (length h + 32 * length m.states) rows, length_records k m.states counts e)
 
   module _ (m : Machine k.Ideal) (counts : List ℕ) (keys : ℕ) (fit : Fit k m counts keys) where
-    pub states_storable : Each StorableState m.states
-    states_storable = each_at StorableState m.states (λ i s e. let f = fit.each_fit i s e in (f.end_storable, f.storable))
+    pub states_storable : Each (StateStorable k) m.states
+    states_storable = each_at (StateStorable k) m.states (λ i s e. let f = fit.each_fit i s e in (f.end_storable, f.storable))
 
     -- an image has fewer than 2 ^ 26 bits
     pub image_short : length (image_bits k m counts keys) < 2 ^ 26

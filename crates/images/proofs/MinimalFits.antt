@@ -8,7 +8,8 @@ use Rattle.machines.specs.Pairs.{Pairs}
 use Rattle.machines.specs.Minimal.{minimal, key_counts}
 use Rattle.machines.proofs.Lists.{each_in, at_in}
 use Rattle.machines.proofs.Theorems.{right_answers, numbering, can_be_stored}
-use Rattle.images.specs.Fits.{EndStorable, FitState, Fit}
+use Rattle.machines.specs.Storing.{EndStorable}
+use Rattle.images.specs.Fits.{FitState, Fit}
 use Rattle.images.specs.RoundTrip.{Within}
 
 end_storable : (k : Kind) (e : Option k.Ideal) → ((x : k.Ideal) → e ≡ some x → k.storable x ≡ true) → EndStorable k e

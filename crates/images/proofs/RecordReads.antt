@@ -13,7 +13,8 @@ use Rattle.machines.specs.Numbering.{Rising}
 use Rattle.images.specs.Images.{end_code, arc_bits, arcs_bits, record_bits}
 use Rattle.images.specs.Steps.{reads, field, output}
 use Rattle.images.specs.Loads.{misshapen, sum_over, entry_place, record_place, keys_at, arc, arcs, end_output, record_at}
-use Rattle.images.specs.Fits.{EndStorable, FitState}
+use Rattle.machines.specs.Storing.{EndStorable}
+use Rattle.images.specs.Fits.{FitState}
 use Rattle.images.proofs.Standing.{Stands, stands_front, stands_behind, stands_at, stands_next, then_reads, then_tests, field_reads, output_reads}
 
 -- rising bytes from `least` on, below 256, are few

@@ -1,16 +1,12 @@
 -- Which machines, with the number of keys accepted from each state and of all, are fit for an image. Assumes nothing.
 use Rattle.std.specs.Prelude.{◌≡◌, ℕ, suc, ◌+◌, ◌<◌, ◌≤◌, true, List, length}
-use Rattle.std.proofs.Math.Option.{Option, none, some}
+use Rattle.std.proofs.Math.Option.{some}
 use Rattle.outputs.specs.Kinds.{Kind}
 use Rattle.machines.specs.Lists.{at, Each}
 use Rattle.machines.specs.Machines.{State, Machine, count_arcs, end_flag, sum_at, targeted}
 use Rattle.machines.specs.Lengths.{longest_from}
 use Rattle.machines.specs.Numbering.{Rising}
-
--- an image can hold an end output, if there is one
-abbrev pub EndStorable : (k : Kind) → Option k.Ideal → Type 0
-EndStorable k none = Unit {0}
-EndStorable k (some x) = k.storable x ≡ true
+use Rattle.machines.specs.Storing.{EndStorable}
 
 -- What an image asks of state q, where `counts` has the keys accepted from each state.
 pub record FitState (k : Kind) (counts : List ℕ) (q : ℕ) (s : State k.Ideal) : Type 0 where

@@ -1,11 +1,20 @@
 -- What an image asks of the minimal machine: storable outputs, and numbers that its fields can hold. Assumes nothing.
 use Rattle.std.specs.Prelude.{◌≡◌, ℕ, ◌+◌, ◌<◌, ◌≤◌, true, length}
-use Rattle.std.proofs.Math.Option.{some}
+use Rattle.std.proofs.Math.Option.{Option, none, some}
 use Rattle.outputs.specs.Kinds.{Kind}
 use Rattle.machines.specs.Lists.{at, Each}
 use Rattle.machines.specs.Machines.{State, end_flag}
 use Rattle.machines.specs.Pairs.{Pairs}
 use Rattle.machines.specs.Minimal.{minimal, key_counts}
+
+-- an end output, if there is one, is storable
+abbrev pub EndStorable : (k : Kind) → Option k.Ideal → Type 0
+EndStorable k none = Unit {0}
+EndStorable k (some x) = k.storable x ≡ true
+
+-- all outputs of a state are storable
+abbrev pub StateStorable : (k : Kind) → State k.Ideal → Type 0
+StateStorable k s = EndStorable k s.end × Each (λ arc. k.storable arc.output ≡ true) s.arcs
 
 -- What holds of each state of the minimal machine.
 pub record StoringState (k : Kind) (s : State k.Ideal) : Type 0 where

@@ -3,3 +3,4 @@ pub mod Moving
 pub mod Cutting
 pub mod Standing
 pub mod Counting
+pub mod Storing

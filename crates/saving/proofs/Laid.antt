@@ -5,15 +5,14 @@ use Rattle.outputs.specs.Meanings.{meant}
 use mir.Val.{bool_byte}
 use Rattle.std.proofs.lemmas.List.{length-map}
 use Rattle.outputs.specs.Kinds.{Kind, Laws}
-use Rattle.machines.specs.Lists.{Each}
 use Rattle.machines.specs.Machines.{Arc as Edge, count_arcs, end_flag}
 use Rattle.images.specs.Images.{records_bits, head_bits, image_bits, in_turn}
-use Rattle.images.specs.Fits.{EndStorable}
-use Rattle.images.proofs.ImageLengths.{StorableState, records_short, length_head, length_image}
+use Rattle.images.proofs.ImageLengths.{records_short, length_head, length_image}
 use Rattle.records.specs.declared.record.Arc.{Arc}
 use Rattle.records.specs.declared.record.State.{State}
 use Rattle.records.specs.Holding.{arc_of, arcs_of, closed_state}
 use Rattle.records.specs.Lying.{Packed}
+use Rattle.records.proofs.Storing.{stored_closed}
 use Rattle.saving.specs.declared.rows.Rows.{Rows}
 use Rattle.saving.specs.Standing.{counts_of, record_of, records_of, states_of, machine_of}
 
@@ -39,16 +38,6 @@ packed_arcs mean es a n (s ∷ ss) p h =
       length-drop (length es - s.first) es,
     )
 
-each_take : {A : Type 0} (Q : A → Type 0) (n : ℕ) (xs : List A) → Each Q xs → Each Q (take n xs)
-each_take Q zero xs h = tt
-each_take Q (suc n) [] h = tt
-each_take Q (suc n) (x ∷ xs) h = (h.0, each_take Q n xs h.1)
-
-each_drop : {A : Type 0} (Q : A → Type 0) (n : ℕ) (xs : List A) → Each Q xs → Each Q (drop n xs)
-each_drop Q zero xs h = h
-each_drop Q (suc n) [] h = tt
-each_drop Q (suc n) (x ∷ xs) h = each_drop Q n xs h.1
-
 module _ (k : Kind) {O : Type 0} (mean : O → k.Ideal) where
   -- the records of the states and counts are those of the rows
   pub records_same : (as' : List (Arc O)) (ss : List (State O)) → records_bits k (map (closed_state mean (arcs_of mean as')) ss) (map (λ s. s.keys) ss) ≡ records_of k mean as' ss
@@ -62,19 +51,6 @@ module _ (k : Kind) {O : Type 0} (mean : O → k.Ideal) where
       omega (arith, packed_arcs mean es 0 (length rows.arcs.now) rows.states.now rows.shaped.packed (omega arith))
 
   module _ (laws : Laws k) (stored : (x : O) → k.storable (mean x) ≡ true) where
-    end_stored : (o : Maybe O) → EndStorable k (meant mean o)
-    end_stored None = tt
-    end_stored (Some x) = stored x
-
-    arcs_stored : (as' : List (Arc O)) → Each (λ arc. k.storable arc.output ≡ true) (arcs_of mean as')
-    arcs_stored [] = tt
-    arcs_stored (a ∷ as') = (stored a.output, arcs_stored as')
-
-    states_stored : (as' : List (Arc O)) (ss : List (State O)) → Each (StorableState k laws) (map (closed_state mean (arcs_of mean as')) ss)
-    states_stored as' [] = tt
-    states_stored as' (s ∷ ss) =
-        ((end_stored s.end, each_take _ s.count _ (each_drop _ (length (arcs_of mean as') - s.first) (arcs_of mean as') (arcs_stored as'))), states_stored as' ss)
-
     module _ (rows : Rows O) where
       pub image_length : length (image_bits k (machine_of k mean rows) (counts_of rows) rows.keys) ≡
           length (head_bits k (machine_of k mean rows) rows.keys) + 32 * length rows.states.now + length (in_turn (records_of k mean rows.arcs.now rows.states.now))
@@ -95,7 +71,7 @@ module _ (k : Kind) {O : Type 0} (mean : O → k.Ideal) where
             image_length,
             length_head k laws (machine_of k mean rows) rows.keys,
             laws.code_short (mean rows.start) (stored rows.start),
-            records_short k laws ss (counts_of rows) (states_stored rows.arcs.now rows.states.now),
+            records_short k laws ss (counts_of rows) (stored_closed k mean stored rows.arcs.now rows.states.now),
             ap (λ rs. length (in_turn rs)) (records_same rows.arcs.now rows.states.now),
             length-map rows.states.now (closed_state mean (arcs_of mean rows.arcs.now)),
             arcs_counted rows,

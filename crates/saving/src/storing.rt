@@ -14,7 +14,7 @@ use outputs::output::Output;
 use stores::Store;
 
 /// Where an image went.
-#[derive(Clone, Copy)]
+#[derive(Clone, Copy, PartialEq, Eq, Debug)]
 pub struct Saved {
     /// The store's byte at which it begins.
     pub place: usize,

@@ -16,8 +16,7 @@ const TWO: &[u8] =
 
 /// A state at which a key ends, without an arc.
 const LAST: State<Number> = State {
-    ends: true,
-    end: Number { value: 0 },
+    end: Some(Number { value: 0 }),
     count: 0,
     first: 0,
     keys: 1,
@@ -41,8 +40,7 @@ fn save_two<S: Store>(store: &mut S) -> Result<Saved, SaveRefusal> {
     let states = [
         LAST,
         State {
-            ends: false,
-            end: Number { value: 0 },
+            end: None,
             count: 2,
             first: 2,
             keys: 2,
@@ -78,24 +76,18 @@ fn is_saved<S: Store>(
     image: &[u8],
     store: &S,
 ) -> bool {
-    let Ok(saved) = told else { return false };
-    if saved.place != place || saved.length != image.len() {
-        return false;
-    }
-    for (i, byte) in image.iter().enumerate() {
-        if store.at(place.saturating_add(i)) != Ok(*byte) {
-            return false;
-        }
-    }
-    store.count() == place.saturating_add(image.len())
+    let length = image.len();
+    let end = place.saturating_add(length);
+    told == Ok(Saved { place, length })
+        && store.count() == end
+        && (place..end)
+            .zip(image)
+            .all(|(i, byte)| store.at(i) == Ok(*byte))
 }
 
 /// The number of the refusal, if there was one.
 fn refusal_of(told: Result<Saved, SaveRefusal>) -> Option<u8> {
-    match told {
-        Ok(_) => None,
-        Err(refusal) => Some(refusal.number()),
-    }
+    told.err().map(|refusal| refusal.number())
 }
 
 #[test]

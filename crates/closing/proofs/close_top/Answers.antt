@@ -6,7 +6,8 @@ use Rattle.records.specs.Holding.{closed, closed_states, opened}
 use Rattle.records.specs.Registering.{Register}
 use Rattle.records.proofs.Counting.{count_closed}
 use Rattle.comparing.specs.Newest.{newest}
-use Rattle.closing.proofs.Finding.{stored_top, stored_closed, number_found}
+use Rattle.records.proofs.Storing.{stored_closed}
+use Rattle.closing.proofs.Finding.{stored_top, number_found}
 use Rattle.closing.proofs.Entering.{enter_found}
 use Rattle.closing.proofs.close_top.Goals as goal
 

@@ -12,7 +12,8 @@ use Rattle.records.specs.Holding.{closed, closed_states, opened}
 use Rattle.records.specs.Registering.{Register, state_at, home}
 use Rattle.records.proofs.Counting.{count_closed}
 use Rattle.comparing.specs.Newest.{newest}
-use Rattle.closing.proofs.Finding.{stored_top, stored_closed, number_missing}
+use Rattle.records.proofs.Storing.{stored_closed}
+use Rattle.closing.proofs.Finding.{stored_top, number_missing}
 use Rattle.closing.proofs.Entering.{register_more, other, enter_new}
 use Rattle.closing.proofs.keep_top.Goals as goal
 
