@@ -1,4 +1,4 @@
-use Rattle.std.proofs.Common.{◌≡◌, ℕ, ◌+◌, ◌<◌, List, length, sym, refl, ap, ◌∙◌, subst, arith}
+use Rattle.std.proofs.Common.{◌≡◌, ℕ, ◌+◌, ◌<◌, List, length, sym, ap, ◌∙◌, subst, arith}
 use Rattle.construction.specs.Records.{Open}
 use Rattle.construction.specs.Steps.{push}
 use Rattle.construction.specs.Building.{push_along}
@@ -9,16 +9,9 @@ use Rattle.records.proofs.Counting.{count_open}
 use Rattle.pushing.specs.Altering.{alter}
 use Rattle.pushing.specs.Changes.{SameShape}
 use Rattle.pushing.specs.Pushing.{PushHeldStorable}
-use Rattle.pushing.proofs.Keeping.{shape_none, shape_both}
+use Rattle.pushing.proofs.Keeping.{shape_both}
 use Rattle.pushing.proofs.Steps.{push_from, StorableFrom, storable_at, push_last, push_more, storable_more}
 use Rattle.pushing.proofs.along.push_along.Goals as goal
-
-pub loop-d-init : goal.loop-d-init
-loop-d-init g c =
-    (shape_none _, refl, λ s. (refl, s))
-
-pub push_step-parted-requires : goal.push_step-parted-requires
-push_step-parted-requires g c = omega (arith, c.loop-d.invariant.0.openings, c.requires)
 
 pub loop-d-preserved : goal.loop-d-preserved
 loop-d-preserved g c =
@@ -43,9 +36,6 @@ loop-d-preserved g c =
             storable_more k carry left d os (mean r.carry) (mean r.left) (held mean a).open' h t.carried t.remains t.records so_far.1,
           ),
     )
-
-pub push_record-requires : goal.push_record-requires
-push_record-requires g c = omega (arith, c.loop-d.invariant.0.openings, c.requires)
 
 pub returns : goal.returns
 returns g c =

@@ -1,10 +1,8 @@
-use Rattle.std.proofs.Common.{◌≡◌, ℕ, List, map, reverse, length, get_or, set, sym, refl, ap, ◌∙◌, subst, arith}
+use Rattle.std.proofs.Common.{◌≡◌, List, map, reverse, length, get_or, set, sym, refl, ap, ◌∙◌, arith}
 use Rattle.std.proofs.lemmas.List.{map-set, length-map, length-set, get_or-map}
 use Rattle.stacks.specs.Stacks.{lows, highs}
 use Rattle.machines.specs.Machines.{Arc as Edge}
-use Rattle.records.specs.Lying.{Laid}
 use Rattle.records.specs.Holding.{arc_of, arcs_of, open_record}
-use Rattle.records.proofs.Moving.{moved}
 use Rattle.pushing.proofs.LastArcs.{with_output}
 use Rattle.pushing.proofs.OneRecord.{records_led_by}
 use Rattle.pushing.proofs.push.lead.Goals as goal
@@ -33,10 +31,3 @@ returns g c =
       records = ap (λ (es : List (Edge k.Ideal)). reverse (map (open_record mean es) hs)) v
           ∙ records_led_by k mean (mean c.args.output) (arcs_of mean xs) t.of l (arc_of mean a) t.last t.some (simp length-map t.fits) q (length xs) hs c.args.depth b.sound.laid (omega (arith, c.requires)) (t.at t.of);
     }
-
-pub invariant_of-core : goal.invariant_of-core
-invariant_of-core g c =
-    let b = c.args.core.now in
-    let s = c.set_low.ensures in
-    let n : length (lows c.set_low.new.self) ≡ length (lows b.arcs) = ap length s.lows ∙ length-set _ _ _ in
-    record { sound = moved b b.states c.set_low.new.self b.slots.now refl refl s.highs refl s.capacity (subst (λ (m : ℕ). Laid m (highs b.states)) (sym n) b.sound.laid) b.sound.since b.sound.paired }

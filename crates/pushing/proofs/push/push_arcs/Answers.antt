@@ -1,4 +1,4 @@
-use Rattle.std.proofs.Common.{◌≡◌, ◌+◌, ◌<◌, List, length, get_or, set, sym, refl, ap, ◌∙◌, arith}
+use Rattle.std.proofs.Common.{◌≡◌, ◌+◌, ◌<◌, List, length, get_or, set, sym, ap, ◌∙◌, arith}
 use Rattle.std.proofs.lemmas.List.{map-set, length-map, length-set, get_or-map}
 use Rattle.stacks.specs.Stacks.{lows}
 use Rattle.outputs.specs.Joins.{join_or_empty}
@@ -6,12 +6,8 @@ use Rattle.machines.specs.Machines.{Arc as Edge}
 use Rattle.records.specs.Holding.{arc_of, arcs_of}
 use Rattle.pushing.specs.Altering.{alter_range}
 use Rattle.pushing.specs.Changes.{output_under}
-use Rattle.pushing.proofs.Keeping.{shape_none}
 use Rattle.pushing.proofs.Ranges.{range_more, range_none}
 use Rattle.pushing.proofs.push.push_arcs.Goals as goal
-
-pub loop-i-init : goal.loop-i-init
-loop-i-init g c = (shape_none _, refl, refl, refl)
 
 pub loop-i-preserved : goal.loop-i-preserved
 loop-i-preserved g c =
