@@ -21,7 +21,7 @@ open_root-requires g c =
     let mean = g.O.Output.meaning in
     let b = c.args.core.now in
     let a = c.in_ok-depth.ensures in
-    record { sound = c.requires.ready.sound; room = λ z. omega (arith, a.stateroom, count_closed mean b) }
+    λ z. omega (arith, a.stateroom, count_closed mean b)
 
 pub close_beyond-requires : goal.close_beyond-requires
 close_beyond-requires g c =
@@ -29,16 +29,12 @@ close_beyond-requires g c =
     let b = c.args.core.now in
     let a = c.in_ok-depth.ensures in
     let r = c.open_root.ensures in
-    let w = r.keeps in
     let os = (held mean b).open' in
     let within = common_within c.args.key.now (newest_key os) in
-    record {
-      sound = w.sound;
-      opened = omega (arith, a.shared, within.1, newest_length os, count_open mean b, r.openings);
-    }
+    omega (arith, a.shared, within.1, newest_length os, count_open mean b, r.openings)
 
 pub push_along-left-requires : goal.push_along-left-requires
-push_along-left-requires g c = let e = c.close_beyond.ensures in record { sound = e.sound; opened = e.opens }
+push_along-left-requires g c = c.close_beyond.ensures.opens
 
 pub extend-requires : goal.extend-requires
 extend-requires g c =
@@ -61,11 +57,10 @@ extend-requires g c =
     let a3 = ap length p.keeps.arcs in
     let n : c.open_root.new.core.pairs ≡ b.pairs = ap (λ (z : Held k.Ideal). z.pairs) r.holds ∙ rooted_pairs x h in
     record {
-      sound = p.keeps.sound;
       opened = omega (arith, p.openings, e.opens);
       within = omega (arith, a.shared, within.0);
       states = omega (arith, a.stateroom, a.shared, count_closed mean b, count_open mean b, s1, s3, r.openings, p.openings, e.within.states, e.within.staterooms, r.keeps.staterooms, p.keeps.staterooms);
-      arcs = omega (arith, a.arcroom, a.shared, count_edges mean b c.requires.ready.sound, a1, a3, r.arcs, p.arcs, e.within.arcs, e.within.arcrooms, r.keeps.arcrooms, p.keeps.arcrooms);
+      arcs = omega (arith, a.arcroom, a.shared, count_edges mean b, a1, a3, r.arcs, p.arcs, e.within.arcs, e.within.arcrooms, r.keeps.arcrooms, p.keeps.arcrooms);
       pairs = omega (arith, a.few, p.pairs, e.pairs, n);
     }
 
@@ -85,11 +80,11 @@ returns g c =
     let t = c.extend.ensures in
     let w = p.shape.keeps in
     let v = t.keeps in
-    let first : length h.open' ≡ 0 → h.pairs ≡ 0 = λ z. c.requires.ready.first (sym (count_open mean b) ∙ z) in
+    let first : length h.open' ≡ 0 → h.pairs ≡ 0 = λ z. c.requires.first (sym (count_open mean b) ∙ z) in
     let dig = g.O.Output.digested in
     let o = r.keeps in
     record {
-      ready = record { sound = v.sound; first = λ z. absurd (omega (arith, t.opened, z)) };
+      ready = record { first = λ z. absurd (omega (arith, t.opened, z)) };
       rooms = record {
         states = v.staterooms ∙ w.staterooms ∙ e.within.staterooms ∙ r.keeps.staterooms;
         arcs = v.arcrooms ∙ w.arcrooms ∙ e.within.arcrooms ∙ r.keeps.arcrooms;
@@ -97,11 +92,11 @@ returns g c =
       adds = record {
         admitted = subst (λ (n : ℕ). Admitted (capacity b.states) (capacity b.arcs) h key n) a.shared a;
         registered = λ reg.
-            let rooted_reg = registered_still b c.open_root.new.core o.slots o.states o.arcs dig mean reg in
-            let pushed_reg = registered_still c.close_beyond.new.core c.push_along-left.new.core w.slots w.states w.arcs dig mean (e.registered rooted_reg) in
-            registered_still c.push_along-left.new.core c.extend.new.core v.slots v.states v.arcs dig mean pushed_reg;
+            let rooted_reg = registered_still mean b o.states o.arcs dig o.slots reg in
+            let pushed_reg = registered_still mean c.close_beyond.new.core w.states w.arcs dig w.slots (e.registered rooted_reg) in
+            registered_still mean c.push_along-left.new.core v.states v.arcs dig v.slots pushed_reg;
         holds = λ reg s.
-            let rooted_reg = registered_still b c.open_root.new.core o.slots o.states o.arcs dig mean reg in
+            let rooted_reg = registered_still mean b o.states o.arcs dig o.slots reg in
             let path : held mean c.close_beyond.new.core ≡ closed_beyond k d (rooted x h) = e.holds rooted_reg ∙ ap (closed_beyond k d) r.holds in
             let known : held mean c.close_beyond.new.core ≡ closed_beyond k (common_length key (newest_key h.open')) (rooted x h) = path ∙ ap (λ (n : ℕ). closed_beyond k n (rooted x h)) a.shared in
             let storable : PushHeldStorable k (held mean c.close_beyond.new.core) x = subst (λ (z : Held k.Ideal). PushHeldStorable k z x) (sym known) (steps_storable k key x h s) in
@@ -116,4 +111,4 @@ returns g c =
 pub returns-in_err-depth : goal.returns-in_err-depth
 returns-in_err-depth g c =
     let p = err_from_is_err_and c.from_residual.result c.from_residual.ensures.1 in
-    record { ready = c.requires.ready; rooms = record { states = refl; arcs = refl }; adds = rw (p.1, p.2) (c.in_err-depth.ensures, refl) }
+    record { ready = c.requires; rooms = record { states = refl; arcs = refl }; adds = rw (p.1, p.2) (c.in_err-depth.ensures, refl) }

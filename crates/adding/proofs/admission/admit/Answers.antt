@@ -15,8 +15,8 @@ overflow_sub-growth g c =
 most : (g : _) (c : goal.After-max g) → c.lows.result + c.max.result < 131072
 most g c =
     let s = c.args.core.now.states in
-    let t = total s.cells.now s.low s.high c.requires.sound.stateroom in
-    omega (arith, c.lows.ensures, c.highs.ensures, c.max.ensures, c.requires.sound.few)
+    let t = total s.cells.now s.low s.high s.room in
+    omega (arith, c.lows.ensures, c.highs.ensures, c.max.ensures, c.args.core.now.sound.few)
 
 pub overflow_add-states : goal.overflow_add-states
 overflow_add-states g c = let m = most g c in search rules
@@ -36,21 +36,21 @@ returns-then-states-growth g c =
 pub overflow_add-arcs : goal.overflow_add-arcs
 overflow_add-arcs g c =
     let s = c.args.core.now.arcs in
-    let t = total s.cells.now s.low s.high c.requires.sound.arcroom in
-    let m : c.lows-2.result + c.highs-2.result < 131072 = omega (arith, c.lows-2.ensures, c.highs-2.ensures, c.requires.sound.arcfew) in search rules
+    let t = total s.cells.now s.low s.high s.room in
+    let m : c.lows-2.result + c.highs-2.result < 131072 = omega (arith, c.lows-2.ensures, c.highs-2.ensures, c.args.core.now.sound.arcfew) in search rules
 
 pub overflow_add-arcs-2 : goal.overflow_add-arcs-2
 overflow_add-arcs-2 g c =
     let s = c.args.core.now.arcs in
-    let t = total s.cells.now s.low s.high c.requires.sound.arcroom in
-    let m : c.lows-2.result + c.highs-2.result + (length c.args.key.now - c.common_prefix-depth.result) < 131200 = omega (arith, c.lows-2.ensures, c.highs-2.ensures, c.requires.sound.arcfew, c.if-key-gt64.false) in search rules
+    let t = total s.cells.now s.low s.high s.room in
+    let m : c.lows-2.result + c.highs-2.result + (length c.args.key.now - c.common_prefix-depth.result) < 131200 = omega (arith, c.lows-2.ensures, c.highs-2.ensures, c.args.core.now.sound.arcfew, c.if-key-gt64.false) in search rules
 
 pub returns-then-arcs-growth : goal.returns-then-arcs-growth
 returns-then-arcs-growth g c =
     let mean = g.O.Output.meaning in
     let b = c.args.core.now in
     let n : states_held (held mean b) ≡ c.lows.result + c.max.result = omega (arith, count_closed mean b, count_open mean b, c.lows.ensures, c.highs.ensures, c.max.ensures) in
-    let m : arcs_held (held mean b) ≡ c.lows-2.result + c.highs-2.result = omega (arith, count_edges mean b c.requires.sound, c.lows-2.ensures, c.highs-2.ensures) in (
+    let m : arcs_held (held mean b) ≡ c.lows-2.result + c.highs-2.result = omega (arith, count_edges mean b, c.lows-2.ensures, c.highs-2.ensures) in (
       c.if-key-gt64.false,
       sym c.is_above.ensures ∙ c.if-not-is_above.false,
       c.if-core-ge1048575.false,
@@ -63,7 +63,7 @@ returns g c =
     let mean = g.O.Output.meaning in
     let b = c.args.core.now in
     let n : states_held (held mean b) ≡ c.lows.result + c.max.result = omega (arith, count_closed mean b, count_open mean b, c.lows.ensures, c.highs.ensures, c.max.ensures) in
-    let m : arcs_held (held mean b) ≡ c.lows-2.result + c.highs-2.result = omega (arith, count_edges mean b c.requires.sound, c.lows-2.ensures, c.highs-2.ensures) in
+    let m : arcs_held (held mean b) ≡ c.lows-2.result + c.highs-2.result = omega (arith, count_edges mean b, c.lows-2.ensures, c.highs-2.ensures) in
     record {
       short = c.if-key-gt64.false;
       above = sym c.is_above.ensures ∙ c.if-not-is_above.false;
