@@ -1,5 +1,6 @@
 -- Where two keys part, and which of them is lower. Assumes nothing.
-use Rattle.std.proofs.Common.{◌≡◌, ℕ, zero, suc, ◌+◌, ◌<◌, ◌≤◌, min, Bool, true, false, ◌&&◌, ◌||◌, eqb, ltb, [], ◌∷◌, length, get_or, drop, sym, refl, ◌∙◌, arith, le-ltb, eq-eqb, ne_eqb, eqb-true}
+use Rattle.std.proofs.Common.{◌≡◌, ℕ, zero, suc, ◌+◌, ◌<◌, ◌≤◌, min, Option, None, Some, Bool, true, false, ◌&&◌, ◌||◌, eqb, ltb, [], ◌∷◌, length, get_or, drop, sym, refl, ◌∙◌, arith, le-ltb, eq-eqb, ne_eqb, eqb-true}
+use Rattle.std.specs.Option.{unwrap_or, MatchOption}
 use borrow.Author.Tests.{eqb_apart}
 use Rattle.std.proofs.lemmas.List.{drop_more}
 use Rattle.machines.specs.Keys.{Key, lower, common_length}
@@ -10,24 +11,38 @@ pub common_none : (u : Key) → common_length u [] ≡ 0
 common_none [] = refl
 common_none (a ∷ u) = refl
 
--- one more byte is shared
-pub common_more : (i : ℕ) (u v : Key) → i < length u → i < length v → get_or u i 0 ≡ get_or v i 0 → (i + 1) + common_length (drop (i + 1) u) (drop (i + 1) v) ≡ i + common_length (drop i u) (drop i v)
-common_more i u v hu hv e =
-    let s : common_length (drop i u) (drop i v) ≡ suc (common_length (drop (i + 1) u) (drop (i + 1) v)) = (λ j. common_length (drop_more u i 0 hu j) (drop_more v i 0 hv j)) ∙ common_same (get_or u i 0) (get_or v i 0) (drop (i + 1) u) (drop (i + 1) v) e in
+-- bytes that are alike up to a place are shared
+common_upto : (i : ℕ) (u v : Key) → i ≤ length u → i ≤ length v → ((k : ℕ) → k < i → get_or u k 0 ≡ get_or v k 0) → common_length u v ≡ i + common_length (drop i u) (drop i v)
+common_upto zero u v hu hv e = omega arith
+common_upto (suc i) [] v hu hv e = absurd (omega arith)
+common_upto (suc i) (a ∷ u) [] hu hv e = absurd (omega arith)
+common_upto (suc i) (a ∷ u) (b ∷ v) hu hv e =
+    let s = common_same a b u v (e 0 (omega arith)) in
+    let r = common_upto i u v (omega arith) (omega arith) (λ k h. e (suc k) (omega arith)) in
     omega arith
 
 -- the next bytes differ
-pub common_stop : (i : ℕ) (u v : Key) → i < length u → i < length v → (get_or u i 0 ≡ get_or v i 0 → ⊥) → common_length (drop i u) (drop i v) ≡ 0
+common_stop : (i : ℕ) (u v : Key) → i < length u → i < length v → (get_or u i 0 ≡ get_or v i 0 → ⊥) → common_length (drop i u) (drop i v) ≡ 0
 common_stop i u v hu hv n = (λ j. common_length (drop_more u i 0 hu j) (drop_more v i 0 hv j)) ∙ common_other (get_or u i 0) (get_or v i 0) (drop (i + 1) u) (drop (i + 1) v) n
 
 -- one key ends
-pub common_past : (i : ℕ) (u v : Key) → min (length u) (length v) ≤ i → common_length (drop i u) (drop i v) ≡ 0
+common_past : (i : ℕ) (u v : Key) → min (length u) (length v) ≤ i → common_length (drop i u) (drop i v) ≡ 0
 common_past zero [] v h = refl
 common_past zero (a ∷ u) [] h = refl
 common_past zero (a ∷ u) (b ∷ v) h = absurd (omega arith)
 common_past (suc i) [] v h = refl
 common_past (suc i) (a ∷ u) [] h = common_none (drop i u)
 common_past (suc i) (a ∷ u) (b ∷ v) h = common_past i u v (omega arith)
+
+-- the first place at which two keys differ, or the end of the shorter, is what they share
+pub common_first : (n : ℕ) (u v : Key) (r : Option ℕ) → n ≡ min (length u) (length v) → MatchOption r ((k : ℕ) → 0 ≤ k → k < n → get_or u k 0 ≡ get_or v k 0) (λ i. (0 ≤ i) × (i < n) × (get_or u i 0 ≡ get_or v i 0 → ⊥) × ((k : ℕ) → 0 ≤ k → k < i → get_or u k 0 ≡ get_or v k 0)) → unwrap_or r n ≡ common_length u v
+common_first n u v None e same =
+    let past = common_past n u v (omega arith) in
+    omega (arith, common_upto n u v (omega arith) (omega arith) (λ k h. same k (omega arith) h))
+common_first n u v (Some i) e first =
+    let within : i < n = first.1 in
+    let stop = common_stop i u v (omega arith) (omega arith) first.2 in
+    omega (arith, common_upto i u v (omega arith) (omega arith) (λ k h. first.3 k (omega arith) h))
 
 within_by : (n lu lv : ℕ) → (n ≤ lu) × (n ≤ lv) → (t : Bool) → (elim t [ true ↦ suc n | false ↦ 0 ] ≤ suc lu) × (elim t [ true ↦ suc n | false ↦ 0 ] ≤ suc lv)
 within_by n lu lv r true = (omega (arith, r.0), omega (arith, r.1))

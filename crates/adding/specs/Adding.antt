@@ -13,9 +13,8 @@ use Rattle.records.specs.Registering.{Registered}
 use Rattle.adding.specs.declared.refusal.AddRefusal.{AddRefusal}
 use Rattle.adding.specs.Admission.{Admitted, Admits}
 
--- the memory is sound, and nothing is open only before the first pair
+-- nothing is open only before the first pair
 pub record Ready {O : Type 0} (c : Core O) : Type 0 where
-  pub sound : Sound c
   pub first : openings c ≡ 0 → c.pairs ≡ 0
 
 -- both lists have the room that they had

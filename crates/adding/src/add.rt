@@ -11,7 +11,7 @@ use records::memory::Core;
 
 /// Adds a pair, or refuses it and leaves all as it was.
 pub fn add<'a, O: Output>(core: &mut Core<'a, O>, key: &[u8], output: O) -> Result<(), AddRefusal>
-    requires ready { Ready core.old }
+    requires { Ready core.old }
     ensures ready { Ready core.new }
     ensures rooms { SameRooms core.old core.new }
     ensures adds { Adds O.Output.kind O.Output.digested O.Output.meaning key.now (O.Output.meaning output) core.old core.new result }

@@ -3,7 +3,6 @@ ghost use Rattle.std.specs.Prelude.{◌≡◌, ◌+◌, ◌-◌, ◌<◌, length
 ghost use Rattle.stacks.specs.Stacks.{capacity};
 ghost use Rattle.machines.specs.Keys.{common_length};
 ghost use Rattle.construction.specs.Records.{newest_key};
-ghost use Rattle.records.specs.Shape.{Sound};
 ghost use Rattle.records.specs.Holding.{held};
 ghost use Rattle.adding.specs.Admission.{above, Admits};
 
@@ -14,7 +13,6 @@ use records::memory::Core;
 
 /// The length of the newest key.
 fn length<'a, O: Output>(core: &Core<'a, O>) -> usize
-    requires sound { Sound core.now }
     ensures { result ≡ count (newest_key (held O.Output.meaning core.now).open') }
 {
     core.states.highs().saturating_sub(1)
@@ -22,8 +20,7 @@ fn length<'a, O: Output>(core: &Core<'a, O>) -> usize
 
 /// The byte of the newest key at a place.
 fn byte<'a, O: Output>(core: &Core<'a, O>, place: usize) -> u8
-    requires sound { Sound core.now }
-    requires within { place < count (newest_key (held O.Output.meaning core.now).open') }
+    requires { place < count (newest_key (held O.Output.meaning core.now).open') }
     ensures { result ≡ slice_index (newest_key (held O.Output.meaning core.now).open') place }
 {
     last_arc(core, place).byte
@@ -31,22 +28,17 @@ fn byte<'a, O: Output>(core: &Core<'a, O>, place: usize) -> u8
 
 /// The length of the longest common prefix of a key and the newest key.
 pub fn common_prefix<'a, O: Output>(core: &Core<'a, O>, key: &[u8]) -> usize
-    requires sound { Sound core.now }
     ensures { result ≡ common_length key.now (newest_key (held O.Output.meaning core.now).open') }
 {
     let most = key.len().min(length(core));
-    for i in 0..most {
-        if key[i] != byte(core, i) {
-            return i;
-        }
-    }
-    most
+    (0..most)
+        .find(|&place| key[place] != byte(core, place))
+        .unwrap_or(most)
 }
 
 /// Whether a key that leaves the newest key at a depth is above it; every key is above none.
 pub fn is_above<'a, O: Output>(core: &Core<'a, O>, key: &[u8], depth: usize) -> bool
-    requires sound { Sound core.now }
-    requires leaves { depth ≡ common_length key.now (newest_key (held O.Output.meaning core.now).open') }
+    requires { depth ≡ common_length key.now (newest_key (held O.Output.meaning core.now).open') }
     ensures { result ≡ above (held O.Output.meaning core.now).open' key.now }
 {
     if core.states.highs() == 0 {
@@ -63,7 +55,6 @@ pub fn is_above<'a, O: Output>(core: &Core<'a, O>, key: &[u8], depth: usize) -> 
 
 /// The length of the common prefix of a key that is to be added and the newest key, or why it is refused.
 pub fn admit<'a, O: Output>(core: &Core<'a, O>, key: &[u8]) -> Result<usize, AddRefusal>
-    requires sound { Sound core.now }
     ensures { Admits (capacity core.now.states) (capacity core.now.arcs) (held O.Output.meaning core.now) key.now result }
 {
     if key.len() > 64 {

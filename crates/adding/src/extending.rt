@@ -1,7 +1,8 @@
 //! What is new of a key is added to the open records.
 ghost use Rattle.std.specs.Prelude.{◌≡◌, ◌+◌, ◌-◌, ◌<◌, ◌≤◌, length};
 ghost use Rattle.stacks.specs.Stacks.{lows, highs, capacity};
-ghost use Rattle.records.specs.Shape.{Sound, Led, openings, closings, edgings};
+ghost use Rattle.records.specs.Lying.{Led};
+ghost use Rattle.records.specs.Shape.{openings, closings, edgings};
 ghost use Rattle.adding.specs.Extending.{Opened, ArcAdded, Accepted, Rooted, Extended};
 
 use outputs::output::Output;
@@ -10,15 +11,13 @@ use records::record::{Arc, State};
 
 /// A new open record, without arcs.
 fn open_record<'a, O: Output>(core: &mut Core<'a, O>)
-    requires sound { Sound core.old }
     requires led { Led (length (lows core.old.arcs)) (highs core.old.states) }
     requires room { closings core.old + openings core.old < capacity core.old.states }
     ensures { Opened O.Output.meaning core.old core.new }
 {
     let first = core.arcs.lows() as u32;
     core.states.push_high(State {
-        ends: false,
-        end: O::empty(),
+        end: None,
         count: 0,
         first,
         keys: core.pairs,
@@ -27,8 +26,7 @@ fn open_record<'a, O: Output>(core: &mut Core<'a, O>)
 
 /// Before the first pair nothing is open: the record of the empty prefix is opened, and all that the first key puts out is put out at the start.
 pub fn open_root<'a, O: Output>(core: &mut Core<'a, O>, output: O)
-    requires sound { Sound core.old }
-    requires room { openings core.old ≡ 0 → closings core.old < capacity core.old.states }
+    requires { openings core.old ≡ 0 → closings core.old < capacity core.old.states }
     ensures { Rooted O.Output.meaning (O.Output.meaning output) core.old core.new }
 {
     if core.states.highs() == 0 {
@@ -39,7 +37,6 @@ pub fn open_root<'a, O: Output>(core: &mut Core<'a, O>, output: O)
 
 /// A new arc of the newest open record, to a record that is opened next.
 fn add_arc<'a, O: Output>(core: &mut Core<'a, O>, byte: u8, output: O)
-    requires sound { Sound core.old }
     requires opened { 0 < openings core.old }
     requires room { edgings core.old < capacity core.old.arcs }
     ensures { ArcAdded O.Output.kind O.Output.meaning byte (O.Output.meaning output) core.old core.new }
@@ -53,18 +50,14 @@ fn add_arc<'a, O: Output>(core: &mut Core<'a, O>, byte: u8, output: O)
     core.states.set_high(
         0,
         State {
-            ends: top.ends,
-            end: top.end,
             count: top.count + 1,
-            first: top.first,
-            keys: top.keys,
+            ..top
         },
     );
 }
 
 /// A key ends at the newest open record: the pair is taken.
 fn accept<'a, O: Output>(core: &mut Core<'a, O>, output: O)
-    requires sound { Sound core.old }
     requires opened { 0 < openings core.old }
     requires pairs { core.old.pairs < 1048575 }
     ensures { Accepted O.Output.meaning (O.Output.meaning output) core.old core.new }
@@ -73,11 +66,8 @@ fn accept<'a, O: Output>(core: &mut Core<'a, O>, output: O)
     core.states.set_high(
         0,
         State {
-            ends: true,
-            end: output,
-            count: top.count,
-            first: top.first,
-            keys: top.keys,
+            end: Some(output),
+            ..top
         },
     );
     core.pairs += 1;
@@ -85,7 +75,6 @@ fn accept<'a, O: Output>(core: &mut Core<'a, O>, output: O)
 
 /// Adds the rest of a key behind the newest open record, with what is left of its output on the first new arc, or as an end output where nothing is new.
 pub fn extend<'a, O: Output>(core: &mut Core<'a, O>, key: &[u8], depth: usize, left: O)
-    requires sound { Sound core.old }
     requires opened { 0 < openings core.old }
     requires within { depth ≤ length key.now }
     requires states { closings core.old + openings core.old + (length key.now - depth) ≤ capacity core.old.states }
@@ -94,8 +83,8 @@ pub fn extend<'a, O: Output>(core: &mut Core<'a, O>, key: &[u8], depth: usize, l
     ensures { Extended O.Output.kind O.Output.meaning key.now depth (O.Output.meaning left) core.old core.new }
 {
     let mut output = left;
-    for i in depth..key.len() {
-        add_arc(core, key[i], output);
+    for &byte in &key[depth..] {
+        add_arc(core, byte, output);
         open_record(core);
         output = O::empty();
     }

@@ -10,9 +10,8 @@ use Rattle.records.specs.Shape.{openings}
 use Rattle.records.specs.Holding.{arcs_of, end_of, held}
 use Rattle.pushing.specs.Altering.{alter, alter_range}
 
--- the memory stays sound; its closed part, its register and its room are as they were
+-- the closed part of the memory, its register and its room are as they were
 pub record Keeps {O : Type 0} (before after : Core O) : Type 0 where
-  pub sound : Sound after
   pub states : lows after.states ≡ lows before.states
   pub arcs : highs after.arcs ≡ highs before.arcs
   pub slots : after.slots.now ≡ before.slots.now
@@ -37,6 +36,14 @@ pub record RecordAt {O : Type 0} (c : Core O) (depth : ℕ) (s : State O) : Type
   pub at : (e : State O) → s ≡ slice_index_or (highs c.states) (openings c - 1 - depth) e
   pub fits : s.first + s.count ≤ length (lows c.arcs)
   pub leads : depth + 1 < openings c → 0 < s.count
+
+-- a place is that of the last arc of the open record at a depth, as it lies in memory
+pub record LastPlace {O : Type 0} (c : Core O) (depth : ℕ) (place : ℕ) : Type 0 where
+  pub of : State O
+  pub at : (e : State O) → of ≡ slice_index_or (highs c.states) (openings c - 1 - depth) e
+  pub last : place + 1 ≡ of.first + of.count
+  pub some : 0 < of.count
+  pub fits : place < length (lows c.arcs)
 
 -- the arcs of the open record at a depth
 abbrev pub arcs_at : {I : Type 0} → ℕ → List (Open I) → List (Edge I)

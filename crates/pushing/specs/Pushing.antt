@@ -9,6 +9,7 @@ use Rattle.construction.specs.Theorems.{Joins, AlongStorable}
 use Rattle.records.specs.declared.record.Arc.{Arc}
 use Rattle.records.specs.declared.memory.Core.{Core}
 use Rattle.records.specs.Holding.{held}
+use Rattle.pushing.specs.declared.along.Parted.{Parted}
 use Rattle.pushing.specs.Altering.{alter, At}
 use Rattle.pushing.specs.Changes.{SameShape}
 
@@ -16,6 +17,12 @@ use Rattle.pushing.specs.Changes.{SameShape}
 pub record LastOf (k : Kind) {O : Type 0} (mean : O → k.Ideal) (es : List (Edge k.Ideal)) (a : Arc O) : Type 0 where
   pub byte : a.byte ≡ last_byte es
   pub output : mean a.output ≡ last_output k es
+
+-- two outputs are parted behind what they have in common
+pub record Parts (k : Kind) {O : Type 0} (mean : O → k.Ideal) (x y : k.Ideal) (p : Parted O) : Type 0 where
+  pub shared : mean p.shared ≡ k.common x y
+  pub carry : mean p.carry ≡ k.rest (k.common x y) x
+  pub left : mean p.left ≡ k.rest (k.common x y) y
 
 module _ (k : Kind) (carry left : k.Ideal) where
   -- the output of a record's last arc, once `carry` is in front of all that follows
@@ -43,10 +50,10 @@ pub record Steps (k : Kind) (depth : ℕ) (carry left : k.Ideal) (os after : Lis
   pub remains : rest ≡ k.rest (shared k carry left (slice_index_or os depth (blank 0))) left
 
 -- the same in memory, where all joins are storable
-pub record PushedStep (k : Kind) {O : Type 0} (mean : O → k.Ideal) (depth : ℕ) (carry left : k.Ideal) (before after : Core O) (r : O × O) : Type 0 where
+pub record PushedStep (k : Kind) {O : Type 0} (mean : O → k.Ideal) (depth : ℕ) (carry left : k.Ideal) (before after : Core O) (r : Parted O) : Type 0 where
   pub shape : SameShape before after
   pub start : after.start ≡ before.start
-  pub steps : At depth (Joins k carry) (held mean before).open' → Steps k depth carry left (held mean before).open' (held mean after).open' (mean r.0) (mean r.1)
+  pub steps : At depth (Joins k carry) (held mean before).open' → Steps k depth carry left (held mean before).open' (held mean after).open' (mean r.carry) (mean r.left)
 
 module _ (k : Kind) where
   -- what is held once the start output and the open records share no more with a new output than they have to, and what is left of that

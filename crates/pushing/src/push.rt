@@ -1,20 +1,19 @@
 //! Outputs of an open record.
-ghost use Rattle.std.specs.Prelude.{◌+◌, ◌-◌, ◌<◌, ◌≤◌, length};
+ghost use Rattle.std.specs.Prelude.{◌+◌, ◌<◌, ◌≤◌, length};
 ghost use Rattle.stacks.specs.Stacks.{lows};
 ghost use Rattle.outputs.specs.Joins.{join_or_empty};
-ghost use Rattle.records.specs.Shape.{Sound, openings};
+ghost use Rattle.records.specs.Shape.{openings};
 ghost use Rattle.construction.specs.Steps.{lead as leading};
 ghost use Rattle.pushing.specs.Changes.{ArcsUnder, EndUnder, Altered};
 ghost use Rattle.pushing.specs.Pushing.{Pushed};
 
-use crate::reading::record;
+use crate::reading::{last_place, record};
 use outputs::output::Output;
 use records::memory::Core;
 use records::record::{Arc, State};
 
 /// Joins `front` in front of the outputs of the arcs from one place up to another.
 fn push_arcs<'a, O: Output>(core: &mut Core<'a, O>, from: usize, to: usize, front: O)
-    requires sound { Sound core.old }
     requires fits { to ≤ length (lows core.old.arcs) }
     requires order { from ≤ to }
     ensures { ArcsUnder O.Output.meaning (join_or_empty O.Output.kind (O.Output.meaning front)) from to core.old core.new }
@@ -22,14 +21,7 @@ fn push_arcs<'a, O: Output>(core: &mut Core<'a, O>, from: usize, to: usize, fron
     for i in from..to {
         let arc = core.arcs.at_low(i);
         let output = front.join(&arc.output);
-        core.arcs.set_low(
-            i,
-            Arc {
-                byte: arc.byte,
-                target: arc.target,
-                output,
-            },
-        );
+        core.arcs.set_low(i, Arc { output, ..arc });
     }
 }
 
@@ -37,24 +29,13 @@ fn push_arcs<'a, O: Output>(core: &mut Core<'a, O>, from: usize, to: usize, fron
 fn with_end<O: Output>(state: State<O>, front: O) -> State<O>
     ensures { EndUnder O.Output.meaning (join_or_empty O.Output.kind (O.Output.meaning front)) state result }
 {
-    if state.ends {
-        let end = front.join(&state.end);
-        State {
-            ends: true,
-            end,
-            count: state.count,
-            first: state.first,
-            keys: state.keys,
-        }
-    } else {
-        state
-    }
+    let end = state.end.map(|end| front.join(&end));
+    State { end, ..state }
 }
 
 /// Joins `front` in front of all that follows the open record at a depth: its end output and the outputs of its arcs.
 pub fn push_record<'a, O: Output>(core: &mut Core<'a, O>, depth: usize, front: O)
-    requires sound { Sound core.old }
-    requires opened { depth < openings core.old }
+    requires { depth < openings core.old }
     ensures { Pushed O.Output.kind O.Output.meaning depth (O.Output.meaning front) core.old core.new }
 {
     // The empty output changes nothing, and is the most common one.
@@ -74,19 +55,10 @@ pub fn push_record<'a, O: Output>(core: &mut Core<'a, O>, depth: usize, front: O
 
 /// Sets the output of the arc that leads on from the open record at a depth.
 pub fn lead<'a, O: Output>(core: &mut Core<'a, O>, depth: usize, output: O)
-    requires sound { Sound core.old }
-    requires opened { depth + 1 < openings core.old }
+    requires { depth + 1 < openings core.old }
     ensures { Altered O.Output.meaning depth (leading O.Output.kind (O.Output.meaning output)) core.old core.new }
 {
-    let state = record(core, depth);
-    let last = (state.first + state.count) as usize - 1;
+    let last = last_place(core, depth);
     let arc = core.arcs.at_low(last);
-    core.arcs.set_low(
-        last,
-        Arc {
-            byte: arc.byte,
-            target: arc.target,
-            output,
-        },
-    );
+    core.arcs.set_low(last, Arc { output, ..arc });
 }

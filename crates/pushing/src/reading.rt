@@ -1,8 +1,8 @@
 //! The open records by their depth: that of the empty prefix has depth 0.
-ghost use Rattle.std.specs.Prelude.{◌+◌, ◌-◌, ◌<◌};
-ghost use Rattle.records.specs.Shape.{Sound, openings};
+ghost use Rattle.std.specs.Prelude.{◌+◌, ◌<◌};
+ghost use Rattle.records.specs.Shape.{openings};
 ghost use Rattle.records.specs.Holding.{held};
-ghost use Rattle.pushing.specs.Changes.{RecordAt, arcs_at};
+ghost use Rattle.pushing.specs.Changes.{RecordAt, LastPlace, arcs_at};
 ghost use Rattle.pushing.specs.Pushing.{LastOf};
 
 use outputs::output::Output;
@@ -11,19 +11,25 @@ use records::record::{Arc, State};
 
 /// The open record at a depth.
 pub fn record<'a, O: Output>(core: &Core<'a, O>, depth: usize) -> State<O>
-    requires sound { Sound core.now }
-    requires opened { depth < openings core.now }
+    requires { depth < openings core.now }
     ensures { RecordAt core.now depth result }
 {
     core.states.at_high(core.states.highs() - 1 - depth)
 }
 
-/// The arc that leads on from the open record at a depth: its last.
-pub fn last_arc<'a, O: Output>(core: &Core<'a, O>, depth: usize) -> Arc<O>
-    requires sound { Sound core.now }
-    requires opened { depth + 1 < openings core.now }
-    ensures { LastOf O.Output.kind O.Output.meaning (arcs_at depth (held O.Output.meaning core.now).open') result }
+/// Where the arc lies that leads on from the open record at a depth: its last.
+pub fn last_place<'a, O: Output>(core: &Core<'a, O>, depth: usize) -> usize
+    requires { depth + 1 < openings core.now }
+    ensures { LastPlace core.now depth result }
 {
     let state = record(core, depth);
-    core.arcs.at_low((state.first + state.count) as usize - 1)
+    (state.first + state.count) as usize - 1
+}
+
+/// The arc that leads on from the open record at a depth.
+pub fn last_arc<'a, O: Output>(core: &Core<'a, O>, depth: usize) -> Arc<O>
+    requires { depth + 1 < openings core.now }
+    ensures { LastOf O.Output.kind O.Output.meaning (arcs_at depth (held O.Output.meaning core.now).open') result }
+{
+    core.arcs.at_low(last_place(core, depth))
 }

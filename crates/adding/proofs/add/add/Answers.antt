@@ -1,27 +1,18 @@
-use Rattle.std.proofs.Common.{◌≡◌, ℕ, length, sym, refl, ap, ◌∙◌, subst, arith}
-use Rattle.std.proofs.lemmas.Result.{err_from_is_err_and}
+use Rattle.std.proofs.Common.{◌≡◌, ℕ, length, sym, ap, ◌∙◌, subst, arith}
 use Rattle.stacks.specs.Stacks.{capacity}
 use Rattle.machines.specs.Keys.{common_length}
 use Rattle.construction.specs.Records.{Held, newest_key}
 use Rattle.closing.specs.Closing.{closed_beyond}
 use Rattle.records.specs.Holding.{held}
-use Rattle.records.proofs.Counting.{count_closed, count_open, count_edges}
+use Rattle.records.proofs.Counting.{count_open, count_edges}
 use Rattle.records.proofs.Moving.{registered_still}
 use Rattle.pushing.specs.Pushing.{push_held, PushHeldStorable}
 use Rattle.adding.specs.Admission.{Admitted}
 use Rattle.adding.specs.Extending.{rooted, extended}
 use Rattle.adding.proofs.FiveSteps.{after_steps, steps_add, steps_storable}
-use Rattle.adding.proofs.LastRecord.{rooted_pairs}
 use Rattle.adding.proofs.NewestKey.{newest_length}
 use Rattle.adding.proofs.Parting.{common_within}
 use Rattle.adding.proofs.add.add.Goals as goal
-
-pub open_root-requires : goal.open_root-requires
-open_root-requires g c =
-    let mean = g.O.Output.meaning in
-    let b = c.args.core.now in
-    let a = c.in_ok-depth.ensures in
-    record { sound = c.requires.ready.sound; room = λ z. omega (arith, a.stateroom, count_closed mean b) }
 
 pub close_beyond-requires : goal.close_beyond-requires
 close_beyond-requires g c =
@@ -29,48 +20,29 @@ close_beyond-requires g c =
     let b = c.args.core.now in
     let a = c.in_ok-depth.ensures in
     let r = c.open_root.ensures in
-    let w = r.keeps in
     let os = (held mean b).open' in
     let within = common_within c.args.key.now (newest_key os) in
-    record {
-      sound = w.sound;
-      opened = omega (arith, a.shared, within.1, newest_length os, count_open mean b, r.openings);
-    }
+    omega (arith, a.shared, within.1, newest_length os, count_open mean b, r.openings)
 
-pub push_along-left-requires : goal.push_along-left-requires
-push_along-left-requires g c = let e = c.close_beyond.ensures in record { sound = e.sound; opened = e.opens }
+pub extend-requires-clause-within : goal.extend-requires-clause-within
+extend-requires-clause-within g c =
+    let within = common_within c.args.key.now (newest_key (held g.O.Output.meaning c.args.core.now).open') in
+    omega (arith, c.in_ok-depth.ensures.shared, within.0)
 
-pub extend-requires : goal.extend-requires
-extend-requires g c =
-    let k = g.O.Output.kind in
+pub extend-requires-clause-arcs : goal.extend-requires-clause-arcs
+extend-requires-clause-arcs g c =
     let mean = g.O.Output.meaning in
-    let x = mean c.args.output in
-    let key = c.args.key.now in
     let b = c.args.core.now in
-    let h = held mean b in
-    let d = c.in_ok-depth.depth in
     let a = c.in_ok-depth.ensures in
     let r = c.open_root.ensures in
     let e = c.close_beyond.ensures in
     let p = c.push_along-left.ensures.shape in
-    let os = h.open' in
-    let within = common_within key (newest_key os) in
-    let s1 = ap length r.keeps.states in
-    let s3 = ap length p.keeps.states in
     let a1 = ap length r.keeps.arcs in
     let a3 = ap length p.keeps.arcs in
-    let n : c.open_root.new.core.pairs ≡ b.pairs = ap (λ (z : Held k.Ideal). z.pairs) r.holds ∙ rooted_pairs x h in
-    record {
-      sound = p.keeps.sound;
-      opened = omega (arith, p.openings, e.opens);
-      within = omega (arith, a.shared, within.0);
-      states = omega (arith, a.stateroom, a.shared, count_closed mean b, count_open mean b, s1, s3, r.openings, p.openings, e.within.states, e.within.staterooms, r.keeps.staterooms, p.keeps.staterooms);
-      arcs = omega (arith, a.arcroom, a.shared, count_edges mean b c.requires.ready.sound, a1, a3, r.arcs, p.arcs, e.within.arcs, e.within.arcrooms, r.keeps.arcrooms, p.keeps.arcrooms);
-      pairs = omega (arith, a.few, p.pairs, e.pairs, n);
-    }
+    omega (arith, a.arcroom, a.shared, count_edges mean b, a1, a3, r.arcs, p.arcs, e.within.arcs, e.within.arcrooms, r.keeps.arcrooms, p.keeps.arcrooms)
 
-pub returns : goal.returns
-returns g c =
+pub returns-clause-adds : goal.returns-clause-adds
+returns-clause-adds g c =
     let k = g.O.Output.kind in
     let mean = g.O.Output.meaning in
     let x = mean c.args.output in
@@ -85,35 +57,23 @@ returns g c =
     let t = c.extend.ensures in
     let w = p.shape.keeps in
     let v = t.keeps in
-    let first : length h.open' ≡ 0 → h.pairs ≡ 0 = λ z. c.requires.ready.first (sym (count_open mean b) ∙ z) in
+    let first : length h.open' ≡ 0 → h.pairs ≡ 0 = λ z. c.requires.first (sym (count_open mean b) ∙ z) in
     let dig = g.O.Output.digested in
     let o = r.keeps in
     record {
-      ready = record { sound = v.sound; first = λ z. absurd (omega (arith, t.opened, z)) };
-      rooms = record {
-        states = v.staterooms ∙ w.staterooms ∙ e.within.staterooms ∙ r.keeps.staterooms;
-        arcs = v.arcrooms ∙ w.arcrooms ∙ e.within.arcrooms ∙ r.keeps.arcrooms;
-      };
-      adds = record {
-        admitted = subst (λ (n : ℕ). Admitted (capacity b.states) (capacity b.arcs) h key n) a.shared a;
-        registered = λ reg.
-            let rooted_reg = registered_still b c.open_root.new.core o.slots o.states o.arcs dig mean reg in
-            let pushed_reg = registered_still c.close_beyond.new.core c.push_along-left.new.core w.slots w.states w.arcs dig mean (e.registered rooted_reg) in
-            registered_still c.push_along-left.new.core c.extend.new.core v.slots v.states v.arcs dig mean pushed_reg;
-        holds = λ reg s.
-            let rooted_reg = registered_still b c.open_root.new.core o.slots o.states o.arcs dig mean reg in
-            let path : held mean c.close_beyond.new.core ≡ closed_beyond k d (rooted x h) = e.holds rooted_reg ∙ ap (closed_beyond k d) r.holds in
-            let known : held mean c.close_beyond.new.core ≡ closed_beyond k (common_length key (newest_key h.open')) (rooted x h) = path ∙ ap (λ (n : ℕ). closed_beyond k n (rooted x h)) a.shared in
-            let storable : PushHeldStorable k (held mean c.close_beyond.new.core) x = subst (λ (z : Held k.Ideal). PushHeldStorable k z x) (sym known) (steps_storable k key x h s) in
-            t.holds
-            ∙ (λ i. extended k key d (p.left storable i) (p.holds storable i))
-            ∙ ap (λ (z : Held k.Ideal). extended k key d (push_held k z x).1 (push_held k z x).0) path
-            ∙ ap (λ (n : ℕ). after_steps k g.met.O.Output.lawful key x n h) a.shared
-            ∙ steps_add k g.met.O.Output.lawful key x h first;
-      };
+      admitted = subst (λ (n : ℕ). Admitted (capacity b.states) (capacity b.arcs) h key n) a.shared a;
+      registered = λ reg.
+          let rooted_reg = registered_still mean b o.states o.arcs dig o.slots reg in
+          let pushed_reg = registered_still mean c.close_beyond.new.core w.states w.arcs dig w.slots (e.registered rooted_reg) in
+          registered_still mean c.push_along-left.new.core v.states v.arcs dig v.slots pushed_reg;
+      holds = λ reg s.
+          let rooted_reg = registered_still mean b o.states o.arcs dig o.slots reg in
+          let path : held mean c.close_beyond.new.core ≡ closed_beyond k d (rooted x h) = e.holds rooted_reg ∙ ap (closed_beyond k d) r.holds in
+          let known : held mean c.close_beyond.new.core ≡ closed_beyond k (common_length key (newest_key h.open')) (rooted x h) = path ∙ ap (λ (n : ℕ). closed_beyond k n (rooted x h)) a.shared in
+          let storable : PushHeldStorable k (held mean c.close_beyond.new.core) x = subst (λ (z : Held k.Ideal). PushHeldStorable k z x) (sym known) (steps_storable k key x h s) in
+          t.holds
+          ∙ (λ i. extended k key d (p.left storable i) (p.holds storable i))
+          ∙ ap (λ (z : Held k.Ideal). extended k key d (push_held k z x).1 (push_held k z x).0) path
+          ∙ ap (λ (n : ℕ). after_steps k g.met.O.Output.lawful key x n h) a.shared
+          ∙ steps_add k g.met.O.Output.lawful key x h first;
     }
-
-pub returns-in_err-depth : goal.returns-in_err-depth
-returns-in_err-depth g c =
-    let p = err_from_is_err_and c.from_residual.result c.from_residual.ensures.1 in
-    record { ready = c.requires.ready; rooms = record { states = refl; arcs = refl }; adds = rw (p.1, p.2) (c.in_err-depth.ensures, refl) }

@@ -1,5 +1,4 @@
-use Rattle.std.proofs.Common.{◌≡◌, ◌+◌, ◌-◌, ◌<◌, length, sym, ◌∙◌, arith, rules}
-use Rattle.stacks.proofs.TwoEnds.{total}
+use Rattle.std.proofs.Common.{◌≡◌, ◌+◌, sym, ◌∙◌, arith}
 use Rattle.construction.specs.Records.{newest_key}
 use Rattle.records.specs.Holding.{held}
 use Rattle.records.proofs.Counting.{count_closed, count_open, count_edges}
@@ -12,45 +11,12 @@ overflow_sub-growth g c =
     let within = common_within c.args.key.now (newest_key (held g.O.Output.meaning c.args.core.now).open') in
     omega (arith, within.0, c.common_prefix-depth.ensures)
 
-most : (g : _) (c : goal.After-max g) → c.lows.result + c.max.result < 131072
-most g c =
-    let s = c.args.core.now.states in
-    let t = total s.cells.now s.low s.high c.requires.sound.stateroom in
-    omega (arith, c.lows.ensures, c.highs.ensures, c.max.ensures, c.requires.sound.few)
-
-pub overflow_add-states : goal.overflow_add-states
-overflow_add-states g c = let m = most g c in search rules
-
-pub overflow_add-states-2 : goal.overflow_add-states-2
-overflow_add-states-2 g c =
-    let m = most g c in
-    let n : c.lows.result + c.max.result + (length c.args.key.now - c.common_prefix-depth.result) < 131200 = omega (arith, c.if-key-gt64.false) in search rules
-
-pub returns-then-states-growth : goal.returns-then-states-growth
-returns-then-states-growth g c =
-    let mean = g.O.Output.meaning in
-    let b = c.args.core.now in
-    let n : states_held (held mean b) ≡ c.lows.result + c.max.result = omega (arith, count_closed mean b, count_open mean b, c.lows.ensures, c.highs.ensures, c.max.ensures) in
-    (c.if-key-gt64.false, sym c.is_above.ensures ∙ c.if-not-is_above.false, c.if-core-ge1048575.false, omega (arith, n, c.capacity.ensures, c.common_prefix-depth.ensures, c.if-states-growth.true))
-
-pub overflow_add-arcs : goal.overflow_add-arcs
-overflow_add-arcs g c =
-    let s = c.args.core.now.arcs in
-    let t = total s.cells.now s.low s.high c.requires.sound.arcroom in
-    let m : c.lows-2.result + c.highs-2.result < 131072 = omega (arith, c.lows-2.ensures, c.highs-2.ensures, c.requires.sound.arcfew) in search rules
-
-pub overflow_add-arcs-2 : goal.overflow_add-arcs-2
-overflow_add-arcs-2 g c =
-    let s = c.args.core.now.arcs in
-    let t = total s.cells.now s.low s.high c.requires.sound.arcroom in
-    let m : c.lows-2.result + c.highs-2.result + (length c.args.key.now - c.common_prefix-depth.result) < 131200 = omega (arith, c.lows-2.ensures, c.highs-2.ensures, c.requires.sound.arcfew, c.if-key-gt64.false) in search rules
-
 pub returns-then-arcs-growth : goal.returns-then-arcs-growth
 returns-then-arcs-growth g c =
     let mean = g.O.Output.meaning in
     let b = c.args.core.now in
     let n : states_held (held mean b) ≡ c.lows.result + c.max.result = omega (arith, count_closed mean b, count_open mean b, c.lows.ensures, c.highs.ensures, c.max.ensures) in
-    let m : arcs_held (held mean b) ≡ c.lows-2.result + c.highs-2.result = omega (arith, count_edges mean b c.requires.sound, c.lows-2.ensures, c.highs-2.ensures) in (
+    let m : arcs_held (held mean b) ≡ c.lows-2.result + c.highs-2.result = omega (arith, count_edges mean b, c.lows-2.ensures, c.highs-2.ensures) in (
       c.if-key-gt64.false,
       sym c.is_above.ensures ∙ c.if-not-is_above.false,
       c.if-core-ge1048575.false,
@@ -63,7 +29,7 @@ returns g c =
     let mean = g.O.Output.meaning in
     let b = c.args.core.now in
     let n : states_held (held mean b) ≡ c.lows.result + c.max.result = omega (arith, count_closed mean b, count_open mean b, c.lows.ensures, c.highs.ensures, c.max.ensures) in
-    let m : arcs_held (held mean b) ≡ c.lows-2.result + c.highs-2.result = omega (arith, count_edges mean b c.requires.sound, c.lows-2.ensures, c.highs-2.ensures) in
+    let m : arcs_held (held mean b) ≡ c.lows-2.result + c.highs-2.result = omega (arith, count_edges mean b, c.lows-2.ensures, c.highs-2.ensures) in
     record {
       short = c.if-key-gt64.false;
       above = sym c.is_above.ensures ∙ c.if-not-is_above.false;

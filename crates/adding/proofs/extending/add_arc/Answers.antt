@@ -16,26 +16,25 @@ pub overflow_add-top : goal.overflow_add-top
 overflow_add-top g c =
     let b = c.args.core.now in
     let x = c.at_high-top.result in
-    let r = laid_at (length (lows b.arcs)) (highs b.states) 0 x c.requires.opened c.requires.sound.laid (c.at_high-top.ensures x) in
-    let m : x.count + 1 < 131073 = omega (arith, r.0, c.requires.room, c.requires.sound.arcfew) in search rules
+    let r = laid_at (length (lows b.arcs)) (highs b.states) 0 x c.requires.opened b.sound.laid (c.at_high-top.ensures x) in
+    let m : x.count + 1 < 131073 = omega (arith, r.0, c.requires.room, b.sound.arcfew) in search rules
 
 pub returns : goal.returns
 returns g c =
     let k = g.O.Output.kind in
     let mean = g.O.Output.meaning in
-    let so = c.requires.sound in
     let b = c.args.core.now in
+    let so = b.sound in
     let hs = highs b.states in
     let L = lows b.arcs in
     let x = c.at_high-top.result in
     let t = c.at_high-top.ensures x in
-    let y : State g.row.O.Denot = record { ends = x.ends; end = x.end; count = x.count + 1; first = x.first; keys = x.keys } in
+    let y : State g.row.O.Denot = record { end = x.end; count = x.count + 1; first = x.first; keys = x.keys } in
     let s = c.set_high.ensures in
     let p = c.push_low.ensures in
     let v = mean c.args.output in
     let e : Edge k.Ideal = record { byte = c.args.byte; target = 0; output = v } in
     let es = arcs_of mean L in
-    let key = since_at b.pairs hs 0 x c.requires.opened so.since t in
     let at = laid_at (length L) hs 0 x c.requires.opened so.laid t in
     let n : length (highs c.set_high.new.self) ≡ length hs = ap length s.highs ∙ length-set _ _ _ in
     let m : length (lows c.push_low.new.self) ≡ length L + 1 = ap length p.lows ∙ length_push _ _ in
@@ -46,8 +45,6 @@ returns g c =
     let here : take (x.count + 1) (drop x.first (es ++ (e ∷ []))) ≡ take x.count (drop x.first es) ++ (e ∷ []) = push_last_part es e x.first x.count (newest_end L hs x c.requires.opened so.laid t ∙ sym q) in
     record {
       keeps = record {
-        sound = moved b _ refl s.lows p.highs so s.capacity p.capacity s.room p.room (led_laid _ _ l)
-            (subst (Since b.pairs) (sym s.highs) (since_set b.pairs hs 0 y so.since key)) so.paired;
         states = s.lows;
         arcs = p.highs;
         slots = refl;
@@ -68,3 +65,20 @@ returns g c =
     newest_end : {O X : Type 0} (L : List X) (hs : List (State O)) (x : State O) → 0 < length hs → Laid (length L) hs → x ≡ get_or hs 0 x → x.first + x.count ≡ length L
     newest_end L [] x h l t = absurd (omega arith)
     newest_end {O} L (y ∷ hs) x h l t = ap (λ (z : State O). z.first + z.count) t ∙ l.0
+
+pub invariant_of-core : goal.invariant_of-core
+invariant_of-core g c =
+    let b = c.args.core.now in
+    let so = b.sound in
+    let hs = highs b.states in
+    let L = lows b.arcs in
+    let x = c.at_high-top.result in
+    let t = c.at_high-top.ensures x in
+    let y : State g.row.O.Denot = record { end = x.end; count = x.count + 1; first = x.first; keys = x.keys } in
+    let s = c.set_high.ensures in
+    let p = c.push_low.ensures in
+    let key = since_at b.pairs hs 0 x c.requires.opened so.since t in
+    let m : length (lows c.push_low.new.self) ≡ length L + 1 = ap length p.lows ∙ length_push _ _ in
+    let l : Led (length (lows c.push_low.new.self)) (highs c.set_high.new.self) =
+    subst (λ (j : ℕ). Led j (highs c.set_high.new.self)) (sym m) (subst (Led (length L + 1)) (sym s.highs) (led_more (length L) hs y x c.requires.opened so.laid t refl refl)) in
+    record { sound = moved b c.set_high.new.self c.push_low.new.self b.slots.now refl s.lows p.highs s.capacity p.capacity (led_laid _ _ l) (subst (Since b.pairs) (sym s.highs) (since_set b.pairs hs 0 y so.since key)) so.paired }

@@ -7,13 +7,13 @@ use Rattle.pushing.specs.Changes.{Keeps}
 use Rattle.adding.proofs.extending.extend.Given as goal
 
 -- the rest of the key, added to the records as they are now, gives what the whole rest gives
-abbrev pub invariant-loop-i : goal.invariant-loop-i
-invariant-loop-i g l =
+abbrev pub invariant-loop-byte : goal.invariant-loop-byte
+invariant-loop-byte g l =
     Keeps l.initial.core l.core
     × (l.core.pairs ≡ l.initial.core.pairs)
     × (l.core.start ≡ l.initial.core.start)
     × (0 < openings l.core)
-    × (closings l.core + openings l.core + (length l.key - l.i) ≤ capacity l.core.states)
-    × (edgings l.core + (length l.key - l.i) ≤ capacity l.core.arcs)
-    × (extend_last g.O.Output.kind l.initial.core.pairs (held g.O.Output.meaning l.core).open' (drop l.i l.key) (g.O.Output.meaning l.output)
-    ≡ extend_last g.O.Output.kind l.initial.core.pairs (held g.O.Output.meaning l.initial.core).open' (drop l.depth l.key) (g.O.Output.meaning l.initial.output))
+    × (closings l.core + openings l.core + (length l.byte-items - l.byte-index) ≤ capacity l.core.states)
+    × (edgings l.core + (length l.byte-items - l.byte-index) ≤ capacity l.core.arcs)
+    × (extend_last g.O.Output.kind l.initial.core.pairs (held g.O.Output.meaning l.core).open' (drop l.byte-index l.byte-items) (g.O.Output.meaning l.output)
+    ≡ extend_last g.O.Output.kind l.initial.core.pairs (held g.O.Output.meaning l.initial.core).open' l.byte-items (g.O.Output.meaning l.initial.output))

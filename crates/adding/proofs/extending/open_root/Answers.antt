@@ -1,11 +1,10 @@
-use Rattle.std.proofs.Common.{◌≡◌, ◌<◌, List, [], ◌∷◌, ◌++◌, length, sym, refl, ap, ◌∙◌, arith}
+use Rattle.std.proofs.Common.{◌≡◌, List, [], ◌∷◌, ◌++◌, sym, ap, ◌∙◌, arith}
 use Rattle.std.proofs.lemmas.List.{nil_from_length}
 use Rattle.construction.specs.Records.{Open, blank}
 use Rattle.records.specs.Holding.{held}
 use Rattle.records.proofs.Counting.{count_open}
 use Rattle.records.proofs.Moving.{closed_still}
-use Rattle.pushing.proofs.Keeping.{keeps_none}
-use Rattle.adding.proofs.LastRecord.{rooted_first, rooted_later}
+use Rattle.adding.proofs.LastRecord.{rooted_first}
 use Rattle.adding.proofs.extending.open_root.Goals as goal
 
 pub returns-then-highs-eq0 : goal.returns-then-highs-eq0
@@ -18,18 +17,10 @@ returns-then-highs-eq0 g c =
     let h = held mean b in
     let none : h.open' ≡ [] = nil_from_length h.open' (omega (arith, count_open mean b, c.highs.ensures, c.if-highs-eq0.true)) in
     let r : (held mean a).open' ≡ blank b.pairs ∷ [] = e.records ∙ ap (λ (os : List (Open g.O.Output.kind.Ideal)). os ++ (blank b.pairs ∷ [])) none in
-    let f = closed_still b a w.slots w.states w.arcs mean in
+    let f = closed_still mean b w.states w.arcs in
     record {
-      keeps = record { sound = w.sound; states = w.states; arcs = w.arcs; slots = w.slots; staterooms = w.staterooms; arcrooms = w.arcrooms };
+      keeps = record { states = w.states; arcs = w.arcs; slots = w.slots; staterooms = w.staterooms; arcrooms = w.arcrooms };
       openings = omega (arith, e.openings, c.highs.ensures, c.if-highs-eq0.true);
       arcs = e.arcs;
       holds = (λ i. record { closed = f i; open' = r i; start = mean (e.start i); pairs = e.pairs i }) ∙ sym (rooted_first (mean c.args.output) h none);
     }
-
-pub returns-else-highs-eq0 : goal.returns-else-highs-eq0
-returns-else-highs-eq0 g c =
-    let mean = g.O.Output.meaning in
-    let b = c.args.core.now in
-    let h = held mean b in
-    let some : 0 < length h.open' = omega (arith, count_open mean b, c.highs.ensures, c.if-highs-eq0.false) in
-    record { keeps = keeps_none b c.requires.sound; openings = omega (arith, count_open mean b, some); arcs = refl; holds = sym (rooted_later (mean c.args.output) h some) }

@@ -9,7 +9,7 @@ abbrev pub invariant-loop-d : goal.invariant-loop-d
 invariant-loop-d g l =
     SameShape l.initial.core l.core
     × (l.core.start ≡ l.initial.core.start)
-    × (StorableFrom g.O.Output.kind 0 (g.O.Output.meaning l.initial.carry) (g.O.Output.meaning l.initial.left) (held g.O.Output.meaning l.initial.core).open'
-    → (push_from g.O.Output.kind l.d (g.O.Output.meaning l.carry) (g.O.Output.meaning l.left) (held g.O.Output.meaning l.core).open'
-    ≡ push_from g.O.Output.kind 0 (g.O.Output.meaning l.initial.carry) (g.O.Output.meaning l.initial.left) (held g.O.Output.meaning l.initial.core).open')
-    × StorableFrom g.O.Output.kind l.d (g.O.Output.meaning l.carry) (g.O.Output.meaning l.left) (held g.O.Output.meaning l.core).open')
+    × (StorableFrom g.O.Output.kind 0 (g.O.Output.meaning l.initial.parted.carry) (g.O.Output.meaning l.initial.parted.left) (held g.O.Output.meaning l.initial.core).open'
+    → (push_from g.O.Output.kind l.d (g.O.Output.meaning l.parted.carry) (g.O.Output.meaning l.parted.left) (held g.O.Output.meaning l.core).open'
+    ≡ push_from g.O.Output.kind 0 (g.O.Output.meaning l.initial.parted.carry) (g.O.Output.meaning l.initial.parted.left) (held g.O.Output.meaning l.initial.core).open')
+    × StorableFrom g.O.Output.kind l.d (g.O.Output.meaning l.parted.carry) (g.O.Output.meaning l.parted.left) (held g.O.Output.meaning l.core).open')

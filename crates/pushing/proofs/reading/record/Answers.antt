@@ -12,5 +12,5 @@ returns g c =
     let i = length hs - 1 - c.args.depth in
     let there : (e : State g.row.O.Denot) → x ≡ get_or hs i e = subst (λ (m : ℕ). (e : State g.row.O.Denot) → x ≡ get_or hs (m - 1 - c.args.depth) e) c.highs.ensures c.at_high.ensures in
     let h : i < length hs = omega arith in
-    let r = laid_at (length (lows s.arcs)) hs i x h c.requires.sound.laid (there x) in
+    let r = laid_at (length (lows s.arcs)) hs i x h s.sound.laid (there x) in
     record { at = there; fits = r.0; leads = λ k. r.1 (omega arith) }
