@@ -1,5 +1,5 @@
 -- What the shape of rows says of their states, arcs and records. Assumes that outputs are storable.
-use Rattle.std.proofs.Common.{◌≡◌, ℕ, zero, suc, ◌+◌, ◌-◌, ◌*◌, ◌^◌, ◌<◌, ◌≤◌, Bool, List, [], ◌∷◌, map, length, take, drop, sym, refl, ap, ◌∙◌, arith, length-drop, length-take}
+use Rattle.std.proofs.Common.{◌≡◌, ℕ, ◌+◌, ◌-◌, ◌*◌, ◌^◌, ◌<◌, ◌≤◌, Bool, true, List, [], ◌∷◌, map, length, drop, sym, refl, ap, ◌∙◌, arith, length-drop, length-take}
 use Rattle.std.specs.Prelude.{Some, None, Option as Maybe, is_some}
 use Rattle.outputs.specs.Meanings.{meant}
 use mir.Val.{bool_byte}

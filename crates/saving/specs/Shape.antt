@@ -1,5 +1,5 @@
 -- How the rows of a sealed dictionary lie. Assumes nothing.
-use Rattle.std.specs.Prelude.{ℕ, ◌<◌, List, length}
+use Rattle.std.specs.Prelude.{◌<◌, List, length}
 use Rattle.std.specs.Coded.{le_prop}
 use Rattle.records.specs.declared.record.Arc.{Arc}
 use Rattle.records.specs.declared.record.State.{State}
