@@ -2,11 +2,11 @@ use Rattle.std.proofs.Common.{◌++◌, length, get_or, take, sym, ap, ◌∙◌
 use Rattle.std.proofs.lemmas.List.{take_all}
 use Rattle.outputs.specs.Bits.{bits, spread}
 use Rattle.outputs.specs.TextBytes.{spread_more}
-use Rattle.outputs.proofs.text.joining.write_text.Goals as goal
+use Rattle.outputs.proofs.text.calls.TextOutput.write.Goals as goal
 
 pub loop-byte-preserved : goal.loop-byte-preserved
 loop-byte-preserved g c =
-    let t = c.args.text.now in
+    let t = c.args.self.now in
     let i = c.loop-byte.byte-index in
     let e = c.as_bytes-byte-items.ensures in
     subst (λ row. g.K.BitSink.took c.put.new.self row c.put-in-loop-byte.new.self)
@@ -15,7 +15,7 @@ loop-byte-preserved g c =
 
 pub returns : goal.returns
 returns g c =
-    let t = c.args.text.now in
+    let t = c.args.self.now in
     let e = c.as_bytes-byte-items.ensures in
     subst (λ row. g.K.BitSink.took c.args.sink.now row c.loop-byte.sink)
     (ap₂ (λ n xs. bits 5 n ++ spread xs)

@@ -4,7 +4,7 @@ use Rattle.std.proofs.lemmas.Result.{err_from_is_err_and}
 use Rattle.outputs.specs.Numbers.{numbers}
 use Rattle.outputs.specs.BitRows.{length_bits}
 use Rattle.outputs.proofs.FieldReads.{read_there, read_cut, by_reading}
-use Rattle.outputs.proofs.number.read_number.Goals as goal
+use Rattle.outputs.proofs.number.NumberOutput.read.Goals as goal
 
 pub returns-in_err-value : goal.returns-in_err-value
 returns-in_err-value g c =
