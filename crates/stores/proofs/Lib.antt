@@ -1,3 +1,2 @@
 pub mod Celling
 pub mod Running
-pub mod Tailing

@@ -1,5 +1,5 @@
-use Rattle.std.proofs.Common.{◌/◌, ◌*◌, ◌<◌, ◌≤◌, sym, ap, refl, subst, ◌∙◌}
-use Rattle.stores.proofs.Celling.{too_many, too_few, can_be_store}
+use Rattle.std.proofs.Common.{◌/◌, ◌*◌, ◌<◌, refl, subst}
+use Rattle.stores.proofs.Celling.{too_many, too_few}
 use Rattle.stores.proofs.memory.room.Goals.{then-cells-SIZE-via-then-cells-SIZE, then-cells-SIZE-via-else-cells-SIZE+then-used-SIZE}
 use Rattle.stores.proofs.memory.room.Goals as goal
 
@@ -13,13 +13,4 @@ returns-then-cells-SIZE g c =
         | then-cells-SIZE-via-else-cells-SIZE+then-used-SIZE w ↦ too_few laws cells used (subst (λ n. n * cells < used) w.SIZE-else-cells-SIZE.ensures w.if-used-SIZE.true)
       ],
       refl,
-    )
-
-pub returns : goal.returns
-returns g c =
-    let cells = c.args.cells in
-    let used = c.args.used in
-    let laws = g.met.C.Cell.in_turn in (
-      can_be_store laws cells used (subst (λ n. cells ≤ 16777216 / n) c.SIZE.ensures c.if-cells-SIZE.false) (subst (λ n. used ≤ n * cells) c.SIZE-else-cells-SIZE.ensures c.if-used-SIZE.false),
-      ap (λ n. n * cells) c.SIZE-2.ensures ∙ sym (laws.spans cells),
     )
