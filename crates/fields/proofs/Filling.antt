@@ -1,12 +1,11 @@
 -- The bytes of a row of bits whose last byte is filled with zeros. Assumes nothing.
-use Rattle.std.proofs.Common.{◌≡◌, ℕ, zero, suc, ◌+◌, ◌-◌, ◌*◌, ◌/◌, ◌%◌, ◌<◌, ◌≤◌, min, Bool, List, [], ◌∷◌, ◌++◌, length, take, drop, None, Option, sym, refl, ap, ◌∙◌, subst, arith, length-append, length-drop}
+use Rattle.std.proofs.Common.{◌≡◌, ℕ, zero, suc, ◌+◌, ◌-◌, ◌*◌, ◌/◌, ◌%◌, ◌<◌, ◌≤◌, min, Bool, List, [], ◌∷◌, ◌++◌, length, take, drop, Ok, sym, refl, ap, ◌∙◌, subst, arith, length-append, length-drop}
 use Rattle.std.proofs.lemmas.List.{drop-drop, drop_all}
 use Rattle.outputs.specs.Bits.{bits, value, packed, filling}
 use Rattle.outputs.specs.TextReading.{octets}
 use Rattle.outputs.specs.BitRows.{length_bits}
-use Rattle.stores.specs.declared.Refusal.{Refusal}
 use Rattle.fields.specs.Rows.{whole, left}
-use Rattle.fields.specs.Packs.{Gave, Packs, Finishes, pending}
+use Rattle.fields.specs.Packs.{Outcome, Gave, Packs, Finishes, pending}
 use Rattle.fields.specs.PackLaws.{gave_more, few_pending}
 
 -- the first byte of a row
@@ -47,20 +46,20 @@ packed_filled (a ∷ b ∷ c ∷ d ∷ e ∷ f ∷ g ∷ []) l = ap (λ (z : ℕ
 packed_filled (a ∷ b ∷ c ∷ d ∷ e ∷ f ∷ g ∷ h ∷ row) l = absurd (omega arith)
 
 -- a packer that took the zero bits of its last byte is finished
-pub finishes : (room room' : ℕ) (bytes bytes' : List ℕ) (refused refused' : Option Refusal) (filled partial with : ℕ) (waits' : List Bool) →
-    Packs room bytes refused (pending filled partial) (bits (min ((8 - filled % 8) % 8) 32) with) room' bytes' refused' waits' → with ≡ 0 →
-    Finishes room bytes refused (pending filled partial) bytes' refused'
-finishes room room' bytes bytes' refused refused' filled partial with waits' p zeros room⁰ bytes⁰ refused⁰ waits row before =
+pub finishes : (room room' : ℕ) (bytes bytes' : List ℕ) (outcome outcome' : Outcome) (filled partial with : ℕ) (waits' : List Bool) →
+    Packs room bytes outcome (pending filled partial) (bits (min ((8 - filled % 8) % 8) 32) with) room' bytes' outcome' waits' → with ≡ 0 →
+    Finishes room bytes outcome (pending filled partial) bytes' outcome'
+finishes room room' bytes bytes' outcome outcome' filled partial with waits' p zeros room⁰ bytes⁰ outcome⁰ waits row before =
     let rest : List Bool = pending filled partial in
     let n : length rest ≡ filled % 8 = few_pending filled partial in
     let spare : min ((8 - filled % 8) % 8) 32 ≡ filling (length rest) = omega arith in
     let last : whole (rest ++ bits (min ((8 - filled % 8) % 8) 32) with) ≡ packed rest =
     ap (λ (z : ℕ). whole (rest ++ bits z with)) spare ∙ ap (λ (z : ℕ). whole (rest ++ bits (filling (length rest)) z)) zeros ∙ packed_filled rest (omega arith) in
     let all : whole (waits ++ row) ++ packed rest ≡ packed (waits ++ row) = ap (λ (z : List Bool). whole (waits ++ row) ++ packed z) before.waiting ∙ sym (packed_parts (waits ++ row)) in
-    subst (λ (z : List ℕ). Gave room⁰ bytes⁰ refused⁰ z bytes' refused') all
-    (gave_more room⁰ bytes⁰ bytes bytes' (whole (waits ++ row)) (packed rest) refused⁰ refused refused' before.given
-    (subst (λ (z : ℕ). Gave z bytes refused (packed rest) bytes' refused') before.capacity
-    (subst (λ (z : List ℕ). Gave room bytes refused z bytes' refused') last p.given)))
+    subst (λ (z : List ℕ). Gave room⁰ bytes⁰ outcome⁰ z bytes' outcome') all
+    (gave_more room⁰ bytes⁰ bytes bytes' (whole (waits ++ row)) (packed rest) outcome⁰ outcome outcome' before.given
+    (subst (λ (z : ℕ). Gave z bytes outcome (packed rest) bytes' outcome') before.capacity
+    (subst (λ (z : List ℕ). Gave room bytes outcome z bytes' outcome') last p.given)))
 
 -- and no bit waits then
 pub none_waits : (filled partial with : ℕ) (waits' : List Bool) → waits' ≡ left (pending filled partial ++ bits (min ((8 - filled % 8) % 8) 32) with) → waits' ≡ []
@@ -71,12 +70,12 @@ none_waits filled partial with waits' e =
     e ∙ drop_all (8 * (length row / 8)) row full
 
 -- a packer that began with no bits and no refusal, took a row and was finished has given exactly the row's bytes
-pub finished_run : (room room⁰ room' : ℕ) (bytes bytes⁰ bytes' bytes'' : List ℕ) (refused⁰ refused' refused'' : Option Refusal) (waits⁰ waits' row : List Bool) →
-    room⁰ ≡ room → bytes⁰ ≡ bytes → refused⁰ ≡ None → waits⁰ ≡ [] → Packs room⁰ bytes⁰ refused⁰ waits⁰ row room' bytes' refused' waits' →
-    Finishes room' bytes' refused' waits' bytes'' refused'' → Gave room bytes None (packed row) bytes'' refused''
-finished_run room room⁰ room' bytes bytes⁰ bytes' bytes'' refused⁰ refused' refused'' waits⁰ waits' row eroom ebytes erefused ewaits packs done =
-    subst (λ (z : ℕ). Gave z bytes None (packed row) bytes'' refused'') eroom
-    (subst (λ (z : List ℕ). Gave room⁰ z None (packed row) bytes'' refused'') ebytes
-    (subst (λ (z : Option Refusal). Gave room⁰ bytes⁰ z (packed row) bytes'' refused'') erefused
-    (subst (λ (z : List Bool). Gave room⁰ bytes⁰ refused⁰ (packed (z ++ row)) bytes'' refused'') ewaits
-    (done room⁰ bytes⁰ refused⁰ waits⁰ row packs))))
+pub finished_run : (room room⁰ room' : ℕ) (bytes bytes⁰ bytes' bytes'' : List ℕ) (outcome⁰ outcome' outcome'' : Outcome) (waits⁰ waits' row : List Bool) →
+    room⁰ ≡ room → bytes⁰ ≡ bytes → outcome⁰ ≡ Ok tt → waits⁰ ≡ [] → Packs room⁰ bytes⁰ outcome⁰ waits⁰ row room' bytes' outcome' waits' →
+    Finishes room' bytes' outcome' waits' bytes'' outcome'' → Gave room bytes (Ok tt) (packed row) bytes'' outcome''
+finished_run room room⁰ room' bytes bytes⁰ bytes' bytes'' outcome⁰ outcome' outcome'' waits⁰ waits' row eroom ebytes eoutcome ewaits packs done =
+    subst (λ (z : ℕ). Gave z bytes (Ok tt) (packed row) bytes'' outcome'') eroom
+    (subst (λ (z : List ℕ). Gave room⁰ z (Ok tt) (packed row) bytes'' outcome'') ebytes
+    (subst (λ (z : Outcome). Gave room⁰ bytes⁰ z (packed row) bytes'' outcome'') eoutcome
+    (subst (λ (z : List Bool). Gave room⁰ bytes⁰ outcome⁰ (packed (z ++ row)) bytes'' outcome'') ewaits
+    (done room⁰ bytes⁰ outcome⁰ waits⁰ row packs))))

@@ -21,10 +21,7 @@ pub struct Cut {
 pub fn field<S: Store>(store: &S, place: usize, width: usize) -> Result<u32, Cut>
     ensures { Field (spread (S.Store.bytes store.now)) place (field_width width) (cut_at place (S.Store.bytes store.now)) result }
 {
-    match number_at(store, place, width) {
-        Ok(value) => Ok(value),
-        Err(refusal) => Err(Cut { place, refusal }),
-    }
+    number_at(store, place, width).map_err(|refusal| Cut { place, refusal })
 }
 
 /// The same, with the store's refusal alone.
@@ -46,9 +43,9 @@ struct Window {
 fn window_at<S: Store>(store: &S, place: usize, width: usize) -> Result<Window, Refusal>
     ensures { Windowed (spread (S.Store.bytes store.now)) place (field_width width) (missing place (S.Store.bytes store.now)) result }
 {
-    let width = width.min(32).max(1);
+    let width = width.clamp(1, 32);
     let end = place % 8 + width;
-    let count = (end + 7) / 8;
+    let count = end.div_ceil(8);
     let row = gather(store, place / 8, count)?;
     Ok(Window {
         row,
@@ -63,6 +60,7 @@ fn gather<S: Store>(store: &S, first: usize, count: usize) -> Result<u64, Refusa
     ensures { Gathered (S.Store.bytes store.now) first count result }
 {
     let mut row = 0u64;
+    // A `for`, since `?` ends it at the first byte that is missing.
     for i in 0..count {
         row = row * 256 + u64::from(store.at(first + i)?);
     }

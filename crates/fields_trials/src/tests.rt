@@ -1,5 +1,5 @@
 //! Codes on both stores, whole and cut.
-ghost use Rattle.std.specs.Prelude.{◌≡◌, None as Nothing};
+ghost use Rattle.std.specs.Prelude.{◌≡◌, Ok};
 ghost use Rattle.outputs.specs.Bits.{packed};
 ghost use Rattle.fields.specs.Packs.{Gave};
 
@@ -14,8 +14,8 @@ use std::test::Fail;
 use stores::{ByteStore, Refusal, Store, WordStore};
 
 /// Appends the bytes of an output's code, as many as there is room for, and gives the first refusal.
-fn append_code<S: Store, O: Output>(store: &mut S, output: &O) -> Option<Refusal>
-    ensures given { Gave (S.Store.room store.old) (S.Store.bytes store.old) Nothing (packed (O.Output.kind.code (O.Output.meaning output.now))) (S.Store.bytes store.new) result }
+fn append_code<S: Store, O: Output>(store: &mut S, output: &O) -> Result<(), Refusal>
+    ensures given { Gave (S.Store.room store.old) (S.Store.bytes store.old) (Ok tt) (packed (O.Output.kind.code (O.Output.meaning output.now))) (S.Store.bytes store.new) result }
     ensures room { S.Store.room store.new ≡ S.Store.room store.old }
     ensures follows { S.Store.follows store.old store.new }
 {
@@ -27,7 +27,7 @@ fn append_code<S: Store, O: Output>(store: &mut S, output: &O) -> Option<Refusal
 /// Whether the code of an output goes onto a store and is read back from there.
 fn comes_back<S: Store, O: Output>(store: &mut S, output: &O) -> bool {
     let place = store.count().saturating_mul(8);
-    if append_code(store, output).is_some() {
+    if append_code(store, output).is_err() {
         return false;
     }
     match O::read(&StoreBits::new(&*store), place) {
@@ -65,13 +65,8 @@ fn outputs_come_back_from_both_stores(rt: HostRuntime) -> Result<(), Fail> {
     Ok(())
 }
 
-/// What reading answers where a store ends with the first `count` bits of a row.
-#[derive(Clone, Copy, PartialEq, Eq, Debug)]
-enum Told {
-    Read,
-    Cut(Refusal),
-    NoCode,
-}
+/// Whether an output is read where a store ends with the first `count` bits of a row.
+type Told = Result<(), Unread<Refusal>>;
 
 /// Packs bits so that they end the last byte, and reads an output at their first.
 fn read_cut<S: Store, O: Output>(store: &mut S, _kind: &O, row: u32, count: usize) -> Told {
@@ -81,11 +76,8 @@ fn read_cut<S: Store, O: Output>(store: &mut S, _kind: &O, row: u32, count: usiz
     packer.put(0, spare);
     packer.put(row, count);
     let _ = packer.finish();
-    match O::read(&StoreBits::new(&*store), place) {
-        Ok(_) => Told::Read,
-        Err(Unread::Cut(refusal)) => Told::Cut(refusal),
-        Err(Unread::NoCode) => Told::NoCode,
-    }
+    O::read(&StoreBits::new(&*store), place)?;
+    Ok(())
 }
 
 /// The same on both stores, behind two bytes; nothing where they differ.
@@ -103,10 +95,10 @@ fn numbers_are_cut_at_each_bit(rt: HostRuntime) {
     for count in 0..32 {
         assert_eq!(rt;
             answer(&kind, 0xDEAD_BEEF, count),
-            Some(Told::Cut(Refusal::Missing(2 + (count + 7) / 8)))
+            Some(Err(Unread::Cut(Refusal::Missing(2 + (count + 7) / 8))))
         );
     }
-    assert_eq!(rt; answer(&kind, 0xDEAD_BEEF, 32), Some(Told::Read));
+    assert_eq!(rt; answer(&kind, 0xDEAD_BEEF, 32), Some(Ok(())));
 }
 
 #[test]
@@ -117,21 +109,21 @@ fn texts_are_cut_at_each_bit(rt: HostRuntime) {
     for count in 0..21 {
         assert_eq!(rt;
             answer(&kind, code >> (21 - count), count),
-            Some(Told::Cut(Refusal::Missing(2 + (count + 7) / 8)))
+            Some(Err(Unread::Cut(Refusal::Missing(2 + (count + 7) / 8))))
         );
     }
-    assert_eq!(rt; answer(&kind, code, 21), Some(Told::Read));
+    assert_eq!(rt; answer(&kind, code, 21), Some(Ok(())));
     assert_eq!(rt;
         answer(&kind, 0b110, 3),
-        Some(Told::Cut(Refusal::Missing(3)))
+        Some(Err(Unread::Cut(Refusal::Missing(3))))
     );
     assert_eq!(rt;
         answer(&kind, 0b1100, 4),
-        Some(Told::Cut(Refusal::Missing(3)))
+        Some(Err(Unread::Cut(Refusal::Missing(3))))
     );
-    assert_eq!(rt; answer(&kind, 0b111, 3), Some(Told::NoCode));
-    assert_eq!(rt; answer(&kind, 0b1101, 4), Some(Told::NoCode));
-    assert_eq!(rt; answer(&kind, 0b11001, 5), Some(Told::NoCode));
+    assert_eq!(rt; answer(&kind, 0b111, 3), Some(Err(Unread::NoCode)));
+    assert_eq!(rt; answer(&kind, 0b1101, 4), Some(Err(Unread::NoCode)));
+    assert_eq!(rt; answer(&kind, 0b11001, 5), Some(Err(Unread::NoCode)));
 }
 
 #[test]
@@ -139,7 +131,7 @@ fn a_full_store_takes_what_there_is_room_for(rt: HostRuntime) {
     let mut bytes = [0; 3];
     let mut store = ByteStore::new(&mut bytes, 1);
     let code = Number { value: 0x0102_0304 };
-    assert_eq!(rt; append_code(&mut store, &code), Some(Refusal::Full));
+    assert_eq!(rt; append_code(&mut store, &code), Err(Refusal::Full));
     assert_eq!(rt; bytes, [0, 1, 2]);
     let mut counter = Counter::new();
     code.write(&mut counter);
@@ -153,7 +145,7 @@ fn the_mark_is_found_where_it_stands(rt: HostRuntime) {
     let mut packer = Packer::new(&mut store);
     packer.put(0b101, 3);
     write_mark(&mut packer);
-    assert_eq!(rt; packer.finish(), None);
+    assert_eq!(rt; packer.finish(), Ok(()));
     assert_eq!(rt; field(&store, 0, 3), Ok(0b101));
     assert_eq!(rt; has_mark(&store, 3), Ok(true));
     assert_eq!(rt; has_mark(&store, 4), Ok(false));

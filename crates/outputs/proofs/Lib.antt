@@ -1,2 +1,3 @@
 pub mod FieldReads
+pub mod TextArrays
 pub mod TextReads

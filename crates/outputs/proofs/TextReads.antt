@@ -1,10 +1,9 @@
 -- Reading a text in steps, its length and then its bytes, is reading a text. Assumes nothing.
-use Rattle.std.proofs.Common.{◌≡◌, ℕ, zero, suc, ◌+◌, ◌*◌, ◌<◌, ◌≤◌, Bool, true, false, cond, ltb, leb, ◌⊎◌, List, [], ◌∷◌, ◌++◌, length, take, drop, sym, refl, ap, ◌∙◌, inl, inr, arith, length-append, length-drop, le-ltb, lt-ltb, le-leb}
-use borrow.Author.Tests.{lt-leb}
+use Rattle.std.proofs.Common.{◌≡◌, ℕ, zero, suc, ◌+◌, ◌*◌, ◌<◌, ◌≤◌, Bool, true, false, ltb, leb, ◌⊎◌, List, [], ◌∷◌, ◌++◌, length, take, drop, refl, ap, ◌∙◌, inl, inr, arith, length-append, length-drop, le-ltb, lt-ltb}
 use Rattle.std.proofs.lemmas.Bool.{cond-true, cond-false, cases_lt}
 use Rattle.std.proofs.lemmas.List.{drop-drop}
 use Rattle.outputs.specs.Bits.{bits, value, spread}
-use Rattle.outputs.specs.Kinds.{Reading, got, begun, no_code, and_then, read_field}
+use Rattle.outputs.specs.Kinds.{Reading, got, begun, and_then, read_field}
 use Rattle.outputs.specs.Texts.{texts, read_upto, read_bytes, read_text, longest}
 use Rattle.outputs.specs.TextReading.{octets, least_length}
 use Rattle.outputs.specs.BitRows.{length_bits}
@@ -47,59 +46,7 @@ octets_more (suc i) row =
     (octets_more i (drop 8 row)
     ∙ ap (λ l. octets i (drop 8 row) ++ value (take 8 l) ∷ []) (drop-drop (8 * i) 8 row ∙ ap (λ m. drop m row) (omega arith)))
 
--- a field that may hold at most 24
-abbrev limited : List Bool → Reading ℕ → Reading ℕ
-limited row r = elim r [
-  | got n more ↦ cond (leb n longest) (got n more) no_code
-  | begun ↦ cond (leb (least_length row) longest) begun no_code
-  | no_code ↦ no_code
-]
-
--- a length that is there
-pub length_there : (row : List Bool) → 5 ≤ length row → value (take 5 row) ≤ 24 → read_upto 5 longest row ≡ got (value (take 5 row)) (drop 5 row)
-length_there row h small =
-    ap (limited row) (field_there 5 row h) ∙ cond-true (leb (value (take 5 row)) 24) (got (value (take 5 row)) (drop 5 row)) no_code (le-leb _ 24 small)
-
--- a length that is there and too great
-pub length_wrong : (row : List Bool) → 5 ≤ length row → 24 < value (take 5 row) → read_upto 5 longest row ≡ no_code
-length_wrong row h large =
-    ap (limited row) (field_there 5 row h) ∙ cond-false (leb (value (take 5 row)) 24) (got (value (take 5 row)) (drop 5 row)) no_code (lt-leb _ 24 large)
-
--- a length that the end cuts: it is begun exactly if zeros behind the bits that are there make one
-pub length_begun : (row : List Bool) → length row < 5 → leb (least_length row) 24 ≡ true → read_upto 5 longest row ≡ begun
-length_begun row h s = ap (limited row) (field_cut 5 row h) ∙ cond-true (leb (least_length row) 24) begun no_code s
-
-pub length_not_begun : (row : List Bool) → length row < 5 → leb (least_length row) 24 ≡ false → read_upto 5 longest row ≡ no_code
-length_not_begun row h s = ap (limited row) (field_cut 5 row h) ∙ cond-false (leb (least_length row) 24) begun no_code s
-
-doubled : (v : ℕ) → leb v 12 ≡ leb (2 * v + 0) 24
-doubled v = elim (cases_lt 12 v) [
-  | inl h ↦ lt-leb v 12 h ∙ sym (lt-leb (2 * v + 0) 24 (omega arith))
-  | inr h ↦ le-leb v 12 h ∙ sym (le-leb (2 * v + 0) 24 (omega arith))
-]
-
-fourfold : (v : ℕ) → leb v 6 ≡ leb (2 * (2 * v + 0) + 0) 24
-fourfold v = elim (cases_lt 6 v) [
-  | inl h ↦ lt-leb v 6 h ∙ sym (lt-leb (2 * (2 * v + 0) + 0) 24 (omega arith))
-  | inr h ↦ le-leb v 6 h ∙ sym (le-leb (2 * (2 * v + 0) + 0) 24 (omega arith))
-]
-
--- four bits begin a length if they are at most twelve, three if they are at most six, and fewer always do
-pub four_begin : (row : List Bool) → length row ≡ 4 → leb (value row) 12 ≡ leb (least_length row) 24
-four_begin (a ∷ b ∷ c ∷ d ∷ []) h = doubled (value (a ∷ b ∷ c ∷ d ∷ []))
-four_begin [] h = absurd (omega arith)
-four_begin (a ∷ []) h = absurd (omega arith)
-four_begin (a ∷ b ∷ []) h = absurd (omega arith)
-four_begin (a ∷ b ∷ c ∷ []) h = absurd (omega arith)
-four_begin (a ∷ b ∷ c ∷ d ∷ e ∷ row) h = absurd (omega arith)
-
-pub three_begin : (row : List Bool) → length row ≡ 3 → leb (value row) 6 ≡ leb (least_length row) 24
-three_begin (a ∷ b ∷ c ∷ []) h = fourfold (value (a ∷ b ∷ c ∷ []))
-three_begin [] h = absurd (omega arith)
-three_begin (a ∷ []) h = absurd (omega arith)
-three_begin (a ∷ b ∷ []) h = absurd (omega arith)
-three_begin (a ∷ b ∷ c ∷ d ∷ row) h = absurd (omega arith)
-
+-- fewer than three bits always begin a length
 pub few_begin : (row : List Bool) → length row < 3 → true ≡ leb (least_length row) 24
 few_begin [] h = refl
 few_begin (true ∷ []) h = refl

@@ -35,7 +35,7 @@ impl Output for Number {
     }
 
     fn same(&self, other: &Number) -> bool {
-        self.value == other.value
+        self == other
     }
 
     fn digest(&self) -> u64 {
@@ -70,14 +70,7 @@ impl Output for Number {
     }
 
     fn read<B: BitSource>(source: &B, place: usize) -> Result<(Number, usize), Unread<B::Short>> {
-        read_number(source, place)
+        let value = source.field(place, 32)?;
+        Ok((Number { value }, place + 32))
     }
-}
-
-// The 32 bits of a number, and the place behind them.
-fn read_number<B: BitSource>(source: &B, place: usize) -> Result<(Number, usize), Unread<B::Short>>
-    ensures { Read numbers (λ n. n.value) (numbers.read (drop place (B.BitSource.all source.now))) place (B.BitSource.lacks source.now place) result }
-{
-    let value = source.field(place, 32)?;
-    Ok((Number { value }, place + 32))
 }

@@ -9,6 +9,7 @@ pub enum TextRefusal {
 }
 
 impl TextRefusal {
+    // The number by which the refusal is reported; a method by this name is promised.
     pub fn number(&self) -> u8
         ensures { result ≡ refusal_number self.now }
     {

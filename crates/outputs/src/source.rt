@@ -22,7 +22,7 @@ pub trait BitSource {
 }
 
 // Why bits give no output: a code that the source's end cuts, or no code.
-#[derive(Clone, Copy)]
+#[derive(Clone, Copy, PartialEq, Eq, Debug)]
 pub enum Unread<E> {
     Cut(E),
     NoCode,

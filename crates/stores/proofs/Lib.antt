@@ -1,4 +1,2 @@
-pub mod Putting
+pub mod Celling
 pub mod Running
-pub mod Tailing
-pub mod Wording

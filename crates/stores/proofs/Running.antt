@@ -3,8 +3,7 @@ use Rattle.std.proofs.Common.{◌≡◌, ℕ, ◌+◌, ◌<◌, List, [], ◌∷
 use Rattle.std.proofs.lemmas.List.{take_more}
 use Rattle.stores.specs.declared.runs.Call.{Call}
 use Rattle.stores.specs.declared.runs.Call.TheVariants.{Count}
-use Rattle.stores.specs.declared.runs.Answer.{Answer}
-use Rattle.stores.specs.Runs.{answer, after, answers, after_all, Alike}
+use Rattle.stores.specs.Runs.{Answer, answer, after, answers, after_all, Alike}
 
 pub answers_more : (bytes : List ℕ) (room : ℕ) (calls : List Call) (call : Call) →
     answers bytes room (calls ++ call ∷ []) ≡ answers bytes room calls ++ answer (after_all bytes room calls) room call ∷ []

@@ -3,6 +3,7 @@ pub mod Reads
 pub mod Appends
 pub mod Memories
 pub mod Words
+pub mod Cells
 pub mod Tails
 pub mod Sound
 pub mod Follows

@@ -1,16 +1,20 @@
 -- What a store answers to a run of calls, from its bytes and its capacity alone.
-use Rattle.std.specs.Prelude.{◌≡◌, ℕ, cond, List, [], ◌∷◌, ◌++◌, length, nat_lt, slice_index}
+use Rattle.std.specs.Prelude.{◌≡◌, ℕ, cond, List, [], ◌∷◌, ◌++◌, length, nat_lt, slice_index, Ok, Err, Result}
+use Rattle.stores.specs.declared.Refusal.{Refusal}
 use Rattle.stores.specs.declared.Refusal.TheVariants.{Missing, Full}
 use Rattle.stores.specs.declared.runs.Call.{Call}
 use Rattle.stores.specs.declared.runs.Call.TheVariants.{Count, Capacity, At, Append}
-use Rattle.stores.specs.declared.runs.Answer.{Answer}
-use Rattle.stores.specs.declared.runs.Answer.TheVariants.{Number, Byte, Done, Refused}
+use Rattle.stores.specs.declared.runs.Reply.{Reply}
+use Rattle.stores.specs.declared.runs.Reply.TheVariants.{Number, Byte, Done}
+
+abbrev pub Answer : Type 0
+Answer = Result Reply Refusal
 
 abbrev pub answer : List ℕ → ℕ → Call → Answer
-answer bytes room Count = Number (length bytes)
-answer bytes room Capacity = Number room
-answer bytes room (At i) = cond (nat_lt i (length bytes)) (Byte (slice_index bytes i)) (Refused (Missing i))
-answer bytes room (Append byte) = cond (nat_lt (length bytes) room) Done (Refused Full)
+answer bytes room Count = Ok (Number (length bytes))
+answer bytes room Capacity = Ok (Number room)
+answer bytes room (At i) = cond (nat_lt i (length bytes)) (Ok (Byte (slice_index bytes i))) (Err (Missing i))
+answer bytes room (Append byte) = cond (nat_lt (length bytes) room) (Ok Done) (Err Full)
 
 -- the bytes after a call; the capacity stays
 abbrev pub after : List ℕ → ℕ → Call → List ℕ

@@ -1,13 +1,13 @@
 //! Stores: lists of bytes with a capacity, over memory that someone else owns.
 #![tactic(auto)]
 
-mod bytes;
+mod cells;
 mod lent;
+mod memory;
 mod runs;
 mod tail;
 #[cfg(test)]
 mod tests;
-mod words;
 
 ghost use Rattle.std.specs.Prelude.{◌≡◌, ℕ, ◌≤◌, List, length};
 ghost use Rattle.stores.specs.Refusals.{number as numbered};
@@ -16,10 +16,10 @@ ghost use Rattle.stores.specs.Appends.{Appended};
 ghost use Rattle.stores.specs.Follows.{Chained};
 ghost use Rattle.stores.specs.Sound.{Sound};
 
-pub use bytes::ByteStore;
-pub use runs::{Answer, Call, ask, run, same_answers};
+pub use cells::Cell;
+pub use memory::{ByteStore, LentStore, WordStore};
+pub use runs::{Answer, Call, Reply, ask, run, same_answers};
 pub use tail::Tail;
-pub use words::WordStore;
 
 /// Why a store did not do as it was asked.
 #[derive(Clone, Copy, PartialEq, Eq, Debug)]

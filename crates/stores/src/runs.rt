@@ -13,17 +13,19 @@ pub enum Call {
     Append(u8),
 }
 
-/// What a store answered.
+/// What a store tells when it does as it is asked.
 #[derive(Clone, Copy, PartialEq, Eq, Debug)]
-pub enum Answer {
+pub enum Reply {
     /// The count or the capacity.
     Number(usize),
     /// The byte that was asked for.
     Byte(u8),
     /// The byte was appended.
     Done,
-    Refused(Refusal),
 }
+
+/// What a store answered.
+pub type Answer = Result<Reply, Refusal>;
 
 /// Makes one call.
 pub fn ask<S: Store>(store: &mut S, call: Call) -> Answer
@@ -33,16 +35,13 @@ pub fn ask<S: Store>(store: &mut S, call: Call) -> Answer
     ensures follows { S.Store.follows store.old store.new }
 {
     match call {
-        Call::Count => Answer::Number(store.count()),
-        Call::Capacity => Answer::Number(store.capacity()),
-        Call::At(i) => match store.at(i) {
-            Ok(byte) => Answer::Byte(byte),
-            Err(refusal) => Answer::Refused(refusal),
-        },
-        Call::Append(byte) => match store.append(byte) {
-            Ok(()) => Answer::Done,
-            Err(refusal) => Answer::Refused(refusal),
-        },
+        Call::Count => Ok(Reply::Number(store.count())),
+        Call::Capacity => Ok(Reply::Number(store.capacity())),
+        Call::At(i) => Ok(Reply::Byte(store.at(i)?)),
+        Call::Append(byte) => {
+            store.append(byte)?;
+            Ok(Reply::Done)
+        }
     }
 }
 
@@ -56,8 +55,9 @@ pub fn run<S: Store>(store: &mut S, calls: &[Call], notes: &mut [Answer]) -> usi
     ensures follows { S.Store.follows store.old store.new }
 {
     let made = calls.len().min(notes.len());
-    for i in 0..made {
-        notes[i] = ask(store, calls[i]);
+    // By the index: behind a `zip` of `iter_mut` the proof does not see what the notes hold.
+    for (i, note) in notes[..made].iter_mut().enumerate() {
+        *note = ask(store, calls[i]);
     }
     made
 }

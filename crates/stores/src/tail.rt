@@ -39,8 +39,7 @@ impl<S: Store> Tail<S> {
         ensures store { result.store ≡ store }
         ensures place { result.place ≡ begin place (S.Store.bytes store) }
     {
-        let count = store.count();
-        let place = if place > count { count } else { place };
+        let place = place.min(store.count());
         Tail { store, place }
     }
 
@@ -55,12 +54,7 @@ impl<S: Store> Tail<S> {
     fn start(&self) -> usize
         ensures { result ≡ begin self.now.place (S.Store.bytes self.now.store) }
     {
-        let count = self.store.count();
-        if self.place < count {
-            self.place
-        } else {
-            count
-        }
+        self.place.min(self.store.count())
     }
 
     /// Fixes the place: one past the count would move as the store grows.

@@ -7,9 +7,8 @@ ghost use Rattle.outputs.specs.TextLaws.{texts_lawful};
 ghost use Rattle.std.proofs.lemmas.Bool.{and_from};
 ghost use Rattle.outputs.specs.TextBytes.{all_bytes_take};
 
-use super::joining::{digest_of, equal, join_fits, joined, rest_behind, shared_part, write_text};
-use super::reading::read_text;
-use super::{Text, no_text};
+use super::reading::{read_length, read_octets};
+use super::{LONGEST, Text, agreeing};
 use crate::output::Output;
 use crate::sink::BitSink;
 use crate::source::{BitSource, Unread};
@@ -33,38 +32,56 @@ impl Output for Text {
     }
 
     fn empty() -> Text {
-        no_text()
+        Text::EMPTY
     }
 
     fn same(&self, other: &Text) -> bool {
-        equal(self, other)
+        self == other
     }
 
+    // A number gathered from the bytes.
     fn digest(&self) -> u64 {
-        digest_of(self)
+        self.as_bytes().iter().fold(0, |gathered: u64, byte| {
+            gathered.wrapping_mul(31).wrapping_add(u64::from(*byte))
+        })
     }
 
     fn joins(&self, other: &Text) -> bool {
-        join_fits(self, other)
+        self.len + other.len <= LONGEST
     }
 
     fn join(&self, other: &Text) -> Text {
-        joined(self, other)
+        if self.joins(other) {
+            self.followed_by(other.as_bytes())
+        } else {
+            Text::EMPTY
+        }
     }
 
     fn common(&self, other: &Text) -> Text {
-        shared_part(self, other)
+        let bytes = self.as_bytes();
+        let alike = agreeing(bytes, other.as_bytes());
+        Text::EMPTY.followed_by(&bytes[..alike])
     }
 
     fn rest(&self, prefix: &Text) -> Text {
-        rest_behind(prefix, self)
+        match self.as_bytes().strip_prefix(prefix.as_bytes()) {
+            Some(behind) => Text::EMPTY.followed_by(behind),
+            None => Text::EMPTY,
+        }
     }
 
+    // The length in five bits, then the bytes.
     fn write<K: BitSink>(&self, sink: &mut K) {
-        write_text(self, sink);
+        sink.put(self.len as u32, 5);
+        for byte in self.as_bytes() {
+            sink.put(u32::from(*byte), 8);
+        }
     }
 
     fn read<B: BitSource>(source: &B, place: usize) -> Result<(Text, usize), Unread<B::Short>> {
-        read_text(source, place)
+        let len = read_length(source, place)?;
+        let bytes = read_octets(source, place + 5, len)?;
+        Ok((Text { bytes, len }, place + 5 + 8 * len))
     }
 }

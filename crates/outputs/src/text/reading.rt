@@ -1,23 +1,12 @@
 // Reading a text off bits: its length, then its bytes.
-ghost use Rattle.std.specs.Prelude.{◌≡◌, ◌+◌, ◌*◌, ◌^◌, ◌<◌, ◌≤◌, true, length, take, drop, nat_le};
-ghost use Rattle.outputs.specs.Texts.{read_text, texts};
-ghost use Rattle.outputs.specs.Joins.{Read};
+ghost use Rattle.std.specs.Prelude.{◌≡◌, ◌+◌, ◌-◌, ◌*◌, ◌^◌, ◌<◌, ◌≤◌, true, length, take, drop, replicate, nat_le, IfOk};
 ghost use Rattle.outputs.specs.TextReading.{Length, Octets, least_length};
 
-use super::{LONGEST, Text};
+use super::LONGEST;
 use crate::source::{BitSource, Unread};
 
-// The text at a place, and the place behind its code.
-pub fn read_text<B: BitSource>(source: &B, place: usize) -> Result<(Text, usize), Unread<B::Short>>
-    ensures { Read texts (λ t. take t.len t.bytes) (read_text (drop place (B.BitSource.all source.now))) place (B.BitSource.lacks source.now place) result }
-{
-    let len = read_length(source, place)?;
-    let bytes = read_octets(source, place + 5, len)?;
-    Ok((Text { bytes, len }, place + 5 + 8 * len))
-}
-
 // The five bits of a length, at most 24.
-fn read_length<B: BitSource>(source: &B, place: usize) -> Result<usize, Unread<B::Short>>
+pub fn read_length<B: BitSource>(source: &B, place: usize) -> Result<usize, Unread<B::Short>>
     ensures { Length (B.BitSource.all source.now) place (B.BitSource.lacks source.now place) result }
 {
     match source.field(place, 5) {
@@ -54,13 +43,14 @@ fn begins_length<B: BitSource>(source: &B, place: usize) -> bool
 }
 
 // So many bytes at a place, in front of zeros.
-fn read_octets<B: BitSource>(source: &B, place: usize, len: usize) -> Result<[u8; 24], B::Short>
+pub fn read_octets<B: BitSource>(source: &B, place: usize, len: usize) -> Result<[u8; 24], B::Short>
     requires { (len ≤ 24) × ((place ≤ length (B.BitSource.all source.now)) × (length (B.BitSource.all source.now) < 2 ^ 32)) }
-    ensures { Octets (B.BitSource.all source.now) place len (B.BitSource.lacks source.now place) result }
+    ensures read { Octets (B.BitSource.all source.now) place len (B.BitSource.lacks source.now place) result }
+    ensures spare { IfOk result (λ bytes. drop len bytes ≡ replicate (24 - len) 0) }
 {
     let mut bytes = [0; 24];
-    for i in 0..len {
-        bytes[i] = source.field(place + 8 * i, 8)? as u8;
+    for (i, byte) in bytes[..len].iter_mut().enumerate() {
+        *byte = source.field(place + 8 * i, 8)? as u8;
     }
     Ok(bytes)
 }

@@ -1,27 +1,18 @@
-use Rattle.std.proofs.Common.{arith}
-use Rattle.outputs.specs.TextBytes.{agree_more, agree_first_ends, agree_second_ends, agree_differ}
+use Rattle.std.proofs.Common.{ℕ, eqb, take, ap, ◌∙◌, rules, tests}
+use Rattle.std.specs.List.{zip}
+use Rattle.std.proofs.lemmas.Iterator.{YieldsList-from_slice, YieldsList-from_zip}
+use Rattle.std.proofs.lemmas.Iterator.Consumers.{YieldsList-at, count_from_yields_List}
+use Rattle.std.proofs.lemmas.Iterator.Search.{YieldsList-from_take_while}
+use Rattle.std.proofs.lemmas.List.Folds.{length-prefix_len}
+use Rattle.outputs.proofs.TextArrays.{shared_prefix}
 use Rattle.outputs.proofs.text.agreeing.Goals as goal
 
-pub loop-n-preserved : goal.loop-n-preserved
-loop-n-preserved c = (agree_more c.args.a.now c.args.b.now c.loop-n.n c.loop-n-test.true c.if-n-b.true c.if-a-n.true c.loop-n.invariant.0, omega arith, omega arith)
-
-pub returns-else-a-n : goal.returns-else-a-n
-returns-else-a-n c = record {
-  shared = agree_differ c.args.a.now c.args.b.now c.loop-n.n c.loop-n-test.true c.if-n-b.true c.if-a-n.false c.loop-n.invariant.0;
-  within_a = c.loop-n.invariant.1;
-  within_b = c.loop-n.invariant.2;
-}
-
-pub returns-else-n-b : goal.returns-else-n-b
-returns-else-n-b c = record {
-  shared = agree_second_ends c.args.a.now c.args.b.now c.loop-n.n c.if-n-b.false c.loop-n.invariant.0;
-  within_a = c.loop-n.invariant.1;
-  within_b = c.loop-n.invariant.2;
-}
-
-pub returns-after-loop-n : goal.returns-after-loop-n
-returns-after-loop-n c = record {
-  shared = agree_first_ends c.args.a.now c.args.b.now c.loop-n.n c.loop-n-test.false c.loop-n.invariant.0;
-  within_a = c.loop-n.invariant.1;
-  within_b = c.loop-n.invariant.2;
-}
+pub returns-clause-shared : goal.returns-clause-shared
+returns-clause-shared c =
+    let a = c.args.a.now in
+    let b = c.args.b.now in
+    let pairs = YieldsList-at c.take_while.ensures.source (YieldsList-from_zip (YieldsList-at c.zip.ensures.first (YieldsList-from_slice a cc)) (YieldsList-from_slice b cc)) in
+    ap (λ k. take k a)
+    (count_from_yields_List _ _ c.count.ensures.ran (YieldsList-from_take_while _ (λ (p : ℕ × ℕ). eqb p.0 p.1) pairs c.take_while.ensures.closure c.take_while.ensures.done (λ x r q k. search (rules, tests)))
+    ∙ length-prefix_len (λ (p : ℕ × ℕ). eqb p.0 p.1) (zip a b))
+    ∙ shared_prefix a b

@@ -22,8 +22,8 @@ returns g c =
     let (exit, lent) = c.store-1.given in
     let ends : exit ≡ u.store.now = lent (sym (done.follows.same ∙ grown.same ∙ ap (λ x. x.ghost_name) first.store)) in
     let given = finished_run (room old) (room s.store.now) (room t.store.now) (bytes old) (bytes s.store.now) (bytes t.store.now) (bytes u.store.now)
-    s.refused t.refused c.finish.result (pending s.filled s.partial) (pending t.filled t.partial) row
-    (ap room begun) (ap bytes begun) first.refused first.waits packs done.packed in
+    s.outcome t.outcome c.finish.result (pending s.filled s.partial) (pending t.filled t.partial) row
+    (ap room begun) (ap bytes begun) first.outcome first.waits packs done.packed in
     let Q : g.row.S.Denot → Type 0 = λ z. g.S.Store.follows z u.store.now in
     let R : g.row.S.Denot → Type 0 = λ z. g.S.Store.follows old z in
     record {
