@@ -43,16 +43,16 @@ module _ (k : Kind) (all : List Bool) (index q count : ℕ) (w : List ℕ) (p₀
     rest x = arcs k all q (count - (i + 1)) (suc x.byte) (h.done ++ (x ∷ []))
 
     -- the arc at p is read, its target's keys added and its target marked
-    pub more : (y : Code.Arc × ℕ) (v r longest' : ℕ) (w'' : List ℕ) → i < count → Answers {X = Arc k.Ideal} {Y = Code.Arc} SameArc (arc k all q least p) (Ok y) →
+    pub more : (y : Code.Arc × ℕ) (least' v r longest' : ℕ) (w'' : List ℕ) → i < count → least' ≡ y.0.byte + 1 → Answers {X = Arc k.Ideal} {Y = Code.Arc} SameArc (arc k all q least p) (Ok y) →
         y.0.target < q → y.0.target < length w' → v ≡ keys_at k all index y.0.target → r ≡ min 100 (suc (length_in w' y.0.target)) → w'' ≡ set w' y.0.target (length_in w' y.0.target + 128) → longest' ≡ max longest r →
-        Walked k all index q count w p₀ (i + 1) (y.0.byte + 1) (keys + v) longest' y.1 w''
+        Walked k all index q count w p₀ (i + 1) least' (keys + v) longest' y.1 w''
     unfolding arcs
-    more y v r longest' w'' l a below inside e m s o =
+    more y least' v r longest' w'' l n' a below inside e m s o =
         let f = has_read {X = Arc k.Ideal} {Y = Code.Arc} SameArc (arc k all q least p) y a in
         let x : Arc k.Ideal = f.0 in
         let same : SameArc y.0 x = f.1.1 in
         let n : count - i ≡ suc (count - (i + 1)) = omega arith in
-        let b : suc x.byte ≡ y.0.byte + 1 = omega (arith, same.0) in
+        let b : suc x.byte ≡ least' = omega (arith, same.0, n') in
         let t : x.target ≡ y.0.target = sym same.1 in
         let low : length_in w' y.0.target ≡ length_in w y.0.target = h.aimed.lengths y.0.target below in
         let z : length_in w x.target ≡ length_in w y.0.target = ap (length_in w) t in

@@ -1,5 +1,5 @@
--- The loop over the marks beside its definition, and a filling of no bits. Assumes nothing.
-use Rattle.std.proofs.Common.{◌≡◌, ℕ, suc, ◌+◌, ◌-◌, ◌<◌, ◌≤◌, Bool, true, not, eqb, List, length, get_or, ap, ◌∙◌, arith, le-leb}
+-- The test of the marks by the first that is not there, and a filling of no bits. Assumes nothing.
+use Rattle.std.proofs.Common.{◌≡◌, ℕ, zero, suc, ◌+◌, ◌-◌, ◌<◌, ◌≤◌, Bool, true, not, eqb, List, length, get_or, ap, ◌∙◌, arith, le-leb}
 use borrow.Author.Tests.{lt-leb}
 use Rattle.outputs.specs.Bits.{filling}
 use Rattle.outputs.specs.Kinds.{Kind}
@@ -9,32 +9,36 @@ use Rattle.images.proofs.Standing.{then_reads, then_tests}
 use Rattle.loading.specs.Ends.{all_marked, filled}
 
 -- a test that finds fault refuses
-pub test_refuses : {B : Type 0} (n at : ℕ) (t : Bool) (s : Reader B) (p : ℕ) → t ≡ true → ◌>>◌ (refuse n at t) s p ≡ refuses (refusal_at n at)
+test_refuses : {B : Type 0} (n at : ℕ) (t : Bool) (s : Reader B) (p : ℕ) → t ≡ true → ◌>>◌ (refuse n at t) s p ≡ refuses (refusal_at n at)
 test_refuses {B} n at t s p e = ap {A = Bool} {B = Step B} (λ b. ◌>>◌ (refuse n at b) s p) e
 
-module _ (k : Kind) (all : List Bool) (index n p q : ℕ) (w : List ℕ) (ahead : all_marked k all index w 0 n p ≡ all_marked k all index w q (n - q) p) where
-  abbrev rest : ℕ → Step (Unit {0})
-  rest = all_marked k all index w (suc q) (n - (q + 1))
+module _ (k : Kind) (all : List Bool) (index n p : ℕ) (w : List ℕ) where
+  abbrev rest : ℕ → ℕ → Step (Unit {0})
+  rest q = all_marked k all index w (suc q) (n - (q + 1))
 
-  pub marked_more : q < n → 128 ≤ get_or w q 0 → all_marked k all index w 0 n p ≡ all_marked k all index w (q + 1) (n - (q + 1)) p
+  -- the states below q are marked: the tests from the start are those from q on
+  marked_below : (q : ℕ) → q ≤ n → ((t : ℕ) → t < q → 128 ≤ get_or w t 0) → all_marked k all index w 0 n p ≡ all_marked k all index w q (n - q) p
   unfolding all_marked
-  marked_more l h =
+  marked_below zero l h = let e : n ≡ n - 0 = omega arith in ap (λ (m : ℕ). all_marked k all index w 0 m p) e
+  marked_below (suc q) l h =
       let e : n - q ≡ suc (n - (q + 1)) = omega arith in
-      let f : suc q ≡ q + 1 = omega arith in
-      ahead ∙ ap (λ (m : ℕ). all_marked k all index w q m p) e
-      ∙ then_tests 25 (record_place k all index q) _ rest p (ap not (le-leb 128 (get_or w q 0) h)) ∙ ap (λ (m : ℕ). all_marked k all index w m (n - (q + 1)) p) f
+      let f : n - (q + 1) ≡ n - suc q = omega arith in
+      marked_below q (omega arith) (λ t b. h t (omega arith)) ∙ ap (λ (m : ℕ). all_marked k all index w q m p) e
+      ∙ then_tests 25 (record_place k all index q) _ (rest q) p (ap not (le-leb 128 (get_or w q 0) (h q (omega arith)))) ∙ ap (λ (m : ℕ). all_marked k all index w (suc q) m p) f
 
-  pub marked_stop : q < n → get_or w q 0 < 128 → all_marked k all index w 0 n p ≡ refuses (refusal_at 25 (record_place k all index q))
+  -- the first state that is not marked is refused
+  pub marked_stop : (q : ℕ) → q < n → get_or w q 0 < 128 → ((t : ℕ) → t < q → 128 ≤ get_or w t 0) → all_marked k all index w 0 n p ≡ refuses (refusal_at 25 (record_place k all index q))
   unfolding all_marked
-  marked_stop l h =
+  marked_stop q l h below =
       let e : n - q ≡ suc (n - (q + 1)) = omega arith in
-      ahead ∙ ap (λ (m : ℕ). all_marked k all index w q m p) e ∙ test_refuses 25 (record_place k all index q) _ rest p (ap not (lt-leb 128 (get_or w q 0) h))
+      marked_below q (omega arith) below ∙ ap (λ (m : ℕ). all_marked k all index w q m p) e ∙ test_refuses 25 (record_place k all index q) _ (rest q) p (ap not (lt-leb 128 (get_or w q 0) h))
 
-  pub marked_end : q ≡ n → all_marked k all index w 0 n p ≡ reads tt p
+  -- all are marked
+  pub marked_all : ((t : ℕ) → t < n → 128 ≤ get_or w t 0) → all_marked k all index w 0 n p ≡ reads tt p
   unfolding all_marked
-  marked_end h =
-      let e : n - q ≡ 0 = omega arith in
-      ahead ∙ ap (λ (m : ℕ). all_marked k all index w q m p) e
+  marked_all h =
+      let e : n - n ≡ 0 = omega arith in
+      marked_below n (omega arith) h ∙ ap (λ (m : ℕ). all_marked k all index w n m p) e
 
 field_none : (all : List Bool) (p : ℕ) → p ≤ length all → field all 0 p ≡ reads 0 (p + 0)
 unfolding field

@@ -60,7 +60,7 @@ module _ (k : Kind) (all : List Bool) (working : ℕ) where
 -- the same by what code answered
 module _ {O : Type 0} (k : Kind) (meaning : O → k.Ideal) (all : List Bool) (working : ℕ) (front : Code.Head O) (index q o count : ℕ) (w : List ℕ) (same : front.index ≡ index) (l : 0 < front.states)
     (hd : Answers {X = Head k.Ideal} {Y = Code.Head O} (λ h x. head_of meaning h ≡ x) (head k all working 0) (Ok (front, index))) (en : Passes (entries k all front.states index) (Ok q))
-    (re : Answers (RecordsRead front.states w) (records k all index 0 front.states [] q) (Ok (count, o))) where
+    (re : Answers (RecordsRead front.states w) (records k all front.index 0 front.states [] q) (Ok (count, o))) where
   abbrev front_of : Head k.Ideal
   front_of = head_of meaning front
 
@@ -73,9 +73,7 @@ module _ {O : Type 0} (k : Kind) (meaning : O → k.Ideal) (all : List Bool) (wo
   index_passed = has_passed (entries k all front.states index) q en
 
   records_read : (ss : List (State k.Ideal)) × ((records k all front.index 0 front.states [] q ≡ reads ss o) × RecordsRead front.states w count ss)
-  records_read =
-      let f = has_read {X = List (State k.Ideal)} {Y = ℕ} (RecordsRead front.states w) (records k all index 0 front.states [] q) (count, o) re in
-      (f.0, (ap {A = ℕ} {B = Step (List (State k.Ideal))} (λ i. records k all i 0 front.states [] q) same ∙ f.1.0, f.1.1))
+  records_read = has_read {X = List (State k.Ideal)} {Y = ℕ} (RecordsRead front.states w) (records k all front.index 0 front.states [] q) (count, o) re
 
   -- the end is refused
   pub stopped_at_end : (e : LoadRefusal) → Passes (ending k all front_of count w o) (Err e) → whole k all working 0 ≡ refuses (reported e)

@@ -1,10 +1,10 @@
 //! What is tested behind the last record.
-ghost use Rattle.std.specs.Prelude.{◌≡◌, ℕ, ◌+◌, ◌^◌, ◌<◌, ◌≤◌, length, IfOk};
+ghost use Rattle.std.specs.Prelude.{◌≡◌, ℕ, ◌+◌, ◌<◌, ◌≤◌, length, slice_index, IfOk, MatchOption};
 ghost use Rattle.outputs.specs.Bits.{spread};
 ghost use Rattle.loading.specs.Answers.{Passes};
 ghost use Rattle.loading.specs.Ends.{all_marked, filled, ending as ending_step};
 ghost use Rattle.loading.specs.Heads.{head_of};
-ghost use Rattle.loading.specs.Index.{There};
+ghost use Rattle.loading.specs.Index.{AllThere};
 
 use crate::head::Head;
 use crate::refusal::LoadRefusal;
@@ -12,30 +12,36 @@ use crate::steps::{keys_at, read_field, record_place};
 use outputs::output::Output;
 use stores::Store;
 
+/// The first working byte that is not marked.
+fn first_unmarked(working: &[u8]) -> Option<usize>
+    ensures { MatchOption result ((q : ℕ) → q < length working.now → 128 ≤ slice_index working.now q) (λ i. (i < length working.now) × (slice_index working.now i < 128) × ((q : ℕ) → q < i → 128 ≤ slice_index working.now q)) }
+{
+    working.iter().position(|byte| *byte < 128)
+}
+
 /// Passes on if each of so many states is marked as some arc's target.
 fn pass_targets<O: Output, S: Store>(
     store: &S,
     place: usize,
-    index: usize,
-    states: usize,
+    index: u32,
+    states: u16,
     working: &[u8],
 ) -> Result<usize, LoadRefusal>
-    requires within { (index < 2 ^ 32) × ((states < 2 ^ 16) × (states ≤ length working.now)) }
-    requires there { (t : ℕ) → t < states → There O.Output.kind (spread (S.Store.bytes store.now)) index t }
+    requires within { states ≤ length working.now }
+    requires there { AllThere O.Output.kind (spread (S.Store.bytes store.now)) index states }
     ensures passes { Passes (all_marked O.Output.kind (spread (S.Store.bytes store.now)) index working.now 0 states place) result }
     ensures same { IfOk result (λ p. p ≡ place) }
 {
-    for state in 0..states {
-        if working[state] < 128 {
-            return Err(LoadRefusal::Target(record_place::<O, S>(store, index, state)));
-        }
+    match first_unmarked(&working[..usize::from(states)]) {
+        Some(state) => Err(LoadRefusal::Target(record_place::<O, S>(store, index, state as u16))),
+        None => Ok(place),
     }
-    Ok(place)
 }
 
 /// Passes the zero bits that fill the last byte.
+#[tactic(auto, using(crate::proofs::MarkPass::filled_none))]
 fn pass_filling<S: Store>(store: &S, used: usize) -> Result<usize, LoadRefusal>
-    requires { (used ≤ length (spread (S.Store.bytes store.now))) × (used < 2 ^ 32) }
+    requires { used ≤ length (spread (S.Store.bytes store.now)) }
     ensures { Passes (filled (spread (S.Store.bytes store.now)) used) result }
 {
     let spare = (8 - used % 8) % 8;
@@ -57,9 +63,9 @@ pub fn pass_ending<O: Output, S: Store>(
     arcs: u32,
     working: &[u8],
 ) -> Result<usize, LoadRefusal>
-    requires inside { (place < 2 ^ 32) × (place ≤ length (spread (S.Store.bytes store.now))) }
-    requires within { (head.now.index < 2 ^ 32) × ((0 < head.now.states) × ((head.now.states < 2 ^ 16) × (head.now.states ≤ length working.now))) }
-    requires there { (t : ℕ) → t < head.now.states → There O.Output.kind (spread (S.Store.bytes store.now)) head.now.index t }
+    requires inside { place ≤ length (spread (S.Store.bytes store.now)) }
+    requires within { (0 < head.now.states) × (head.now.states ≤ length working.now) }
+    requires there { AllThere O.Output.kind (spread (S.Store.bytes store.now)) head.now.index head.now.states }
     ensures { Passes (ending_step O.Output.kind (spread (S.Store.bytes store.now)) (head_of O.Output.meaning head.now) arcs working.now place) result }
 {
     let last = head.states - 1;
@@ -70,7 +76,7 @@ pub fn pass_ending<O: Output, S: Store>(
         return Err(LoadRefusal::Count(head.arcs_place));
     }
     let used = pass_targets::<O, S>(store, place, head.index, last, working)?;
-    if working[last] % 128 > 64 {
+    if working[usize::from(last)] % 128 > 64 {
         return Err(LoadRefusal::Target(record_place::<O, S>(store, head.index, last)));
     }
     pass_filling(store, used)

@@ -7,20 +7,21 @@ ghost use Rattle.loading.specs.Heads.{head_of};
 
 use crate::refusal::LoadRefusal;
 use crate::steps::{read_field, read_output};
+use fields::MARK;
 use outputs::output::Output;
 use stores::Store;
 
-/// What the head of an image says, and where.
+/// What the head of an image says, and where: field for field as its definition has it.
 #[derive(Clone, Copy)]
 pub struct Head<O: Copy> {
-    pub states: usize,
+    pub states: u16,
     pub arcs_place: usize,
     pub arcs: u32,
     pub keys_place: usize,
     pub keys: u32,
     pub start_output: O,
     /// Where the index begins.
-    pub index: usize,
+    pub index: u32,
 }
 
 /// The head at a place, for so many working bytes, and the place behind it.
@@ -30,10 +31,10 @@ pub fn read_head<O: Output, S: Store>(
     working: usize,
 ) -> Result<(Head<O>, usize), LoadRefusal>
     ensures answers { Answers (λ h x. head_of O.Output.meaning h ≡ x) (head_step O.Output.kind (spread (S.Store.bytes store.now)) working place) result }
-    ensures within { IfOk result (λ v. (0 < v.0.states) × (v.0.states ≤ working) × (v.0.states < 2 ^ 16) × (v.0.index ≡ v.1) × (v.1 ≤ length (spread (S.Store.bytes store.now))) × (v.1 < 2 ^ 32)) }
+    ensures within { IfOk result (λ v. (0 < v.0.states) × (v.0.states ≤ working) × (v.0.index ≡ v.1) × (v.1 ≤ length (spread (S.Store.bytes store.now))) × (v.1 < 2 ^ 32)) }
 {
     let (mark, kind_place) = read_field(store, place, 16)?;
-    if mark != 0x5444 {
+    if mark != u32::from(u16::from_be_bytes(MARK)) {
         return Err(LoadRefusal::Mark(place));
     }
     let (kind, states_place) = read_field(store, kind_place, 8)?;
@@ -49,39 +50,37 @@ pub fn read_head<O: Output, S: Store>(
     if keys == 0 {
         return Err(LoadRefusal::Empty(keys_place));
     }
-    let states = states as usize;
-    if working < states {
+    let states = states as u16;
+    if working < usize::from(states) {
         return Err(LoadRefusal::Working(states_place));
     }
     let (start_output, index) = read_output::<O, S>(store, output_place)?;
-    Ok((
-        Head {
-            states,
-            arcs_place,
-            arcs,
-            keys_place,
-            keys,
-            start_output,
-            index,
-        },
-        index,
-    ))
+    let head = Head {
+        states,
+        arcs_place,
+        arcs,
+        keys_place,
+        keys,
+        start_output,
+        index: index as u32,
+    };
+    Ok((head, index))
 }
 
 /// Passes the index of so many states, entry by entry, and gives the place behind it.
 pub fn pass_entries<O: Output, S: Store>(
     store: &S,
     index: usize,
-    states: usize,
+    states: u16,
 ) -> Result<usize, LoadRefusal>
-    requires { (index < 2 ^ 32) × (index ≤ length (spread (S.Store.bytes store.now))) }
+    requires { index ≤ length (spread (S.Store.bytes store.now)) }
     ensures passes { Passes (entries O.Output.kind (spread (S.Store.bytes store.now)) states index) result }
-    ensures within { IfOk result (λ p. (p ≡ index + 32 * states) × (p ≤ length (spread (S.Store.bytes store.now))) × (p < 2 ^ 32)) }
+    ensures within { IfOk result (λ p. (p ≡ index + 32 * states) × (p ≤ length (spread (S.Store.bytes store.now)))) }
 {
     let mut place = index;
-    for i in 0..states {
-        let (_, next) = read_field(store, place, 32)?;
-        place = next;
+    for _ in 0..states {
+        let (_, behind) = read_field(store, place, 32)?;
+        place = behind;
     }
     Ok(place)
 }

@@ -11,6 +11,7 @@ pub use taking::load;
 /// A store whose bytes begin with an image that load has tested. Only load makes one.
 ///
 /// It holds its store by value; `S` may be a store, a lent one (`&mut S`) or a shared one (`&S`).
+// Clauses speak of each machine that it `Holds`: the machine cannot be its model's value, whose type may not depend on the kind, nor stand in a ghost field, which holds a fact alone.
 #[derive(Drop)]
 pub struct Loaded<O, S> {
     store: S,
@@ -37,11 +38,10 @@ impl<O: Output, S: Store> Loaded<O, S> {
     }
 
     /// The bit place of the index.
-    pub fn index(&self) -> usize
-        ensures place { result ≡ self.now.index }
-        ensures within { result < 2 ^ 32 }
+    pub fn index(&self) -> u32
+        ensures { result ≡ self.now.index }
     {
-        self.index as usize
+        self.index
     }
 
     pub fn start_output(&self) -> O

@@ -12,3 +12,4 @@ mod whole;
 
 pub use held::{Loaded, load};
 pub use refusal::LoadRefusal;
+pub use steps::{keys_at, record_place};

@@ -1,6 +1,8 @@
 //! The smallest steps of load: a field, an output, and what stands where the index says.
-ghost use Rattle.std.specs.Prelude.{◌≡◌, ◌+◌, ◌^◌, ◌<◌, ◌≤◌, length, take, drop, IfOk};
-ghost use Rattle.outputs.specs.Bits.{spread, value};
+//!
+//! A store and the place of its index are passed side by side: each clause names both, and through a struct of them it would only be longer.
+ghost use Rattle.std.specs.Prelude.{◌≡◌, ◌+◌, ◌*◌, ◌^◌, ◌<◌, ◌≤◌, length, IfOk};
+ghost use Rattle.outputs.specs.Bits.{spread};
 ghost use Rattle.images.specs.Steps.{field as field_step, output as output_step};
 ghost use Rattle.images.specs.Loads.{entry_place, record_place, keys_at};
 ghost use Rattle.loading.specs.Index.{There};
@@ -8,7 +10,7 @@ ghost use Rattle.loading.specs.Refusals.{unread_at};
 ghost use Rattle.loading.specs.Answers.{Answers};
 
 use crate::refusal::LoadRefusal;
-use fields::{Cut, StoreBits, field};
+use fields::{Cut, StoreBits, field, number_in};
 use outputs::output::Output;
 use outputs::source::Unread;
 use stores::{Refusal, Store};
@@ -21,12 +23,10 @@ pub fn read_field<S: Store>(
 ) -> Result<(u32, usize), LoadRefusal>
     requires { (0 < width) × (width ≤ 32) }
     ensures answers { Answers (λ v x. v ≡ x) (field_step (spread (S.Store.bytes store.now)) width place) result }
-    ensures within { IfOk result (λ v. (v.0 < 2 ^ width) × (v.1 ≡ place + width) × (place + width ≤ length (spread (S.Store.bytes store.now))) × (v.1 < 2 ^ 32)) }
+    ensures within { IfOk result (λ v. (v.0 < 2 ^ width) × (v.1 ≡ place + width) × (place + width ≤ length (spread (S.Store.bytes store.now)))) }
 {
-    match field(store, place, width) {
-        Ok(value) => Ok((value, place + width)),
-        Err(cut) => Err(LoadRefusal::Cut(cut)),
-    }
+    let value = field(store, place, width)?;
+    Ok((value, place + width))
 }
 
 fn unread(place: usize, unread: Unread<Refusal>) -> LoadRefusal
@@ -44,38 +44,27 @@ pub fn read_output<O: Output, S: Store>(store: &S, place: usize) -> Result<(O, u
     ensures answers { Answers (λ v x. O.Output.meaning v ≡ x) (output_step (spread (S.Store.bytes store.now)) O.Output.kind place) result }
     ensures within { IfOk result (λ v. (v.1 ≤ length (spread (S.Store.bytes store.now))) × (v.1 < 2 ^ 32)) }
 {
-    let bits = StoreBits::new(store);
-    match O::read(&bits, place) {
-        Ok(found) => Ok(found),
-        Err(e) => Err(unread(place, e)),
-    }
+    O::read(&StoreBits::new(store), place).map_err(|e| unread(place, e))
 }
 
-/// The number in a field that is there.
-fn number_in<S: Store>(store: &S, place: usize, width: usize) -> u32
-    requires { (0 < width) × ((width ≤ 32) × (place + width ≤ length (spread (S.Store.bytes store.now)))) }
-    ensures value { result ≡ value (take width (drop place (spread (S.Store.bytes store.now)))) }
-    ensures fits { result < 2 ^ width }
+/// Where the index has the entry of a state.
+pub fn entry_place(index: u32, state: u16) -> usize
+    ensures { result ≡ index + 32 * state }
 {
-    match field(store, place, width) {
-        Ok(number) => number,
-        Err(_) => 0,
-    }
+    index as usize + 32 * usize::from(state)
 }
 
-/// The place of a state's record, as the index has it.
-pub fn record_place<O: Output, S: Store>(store: &S, index: usize, state: usize) -> usize
-    requires { (index < 2 ^ 32) × ((state < 2 ^ 16) × (entry_place O.Output.kind (spread (S.Store.bytes store.now)) index state + 32 ≤ length (spread (S.Store.bytes store.now)))) }
-    ensures place { result ≡ record_place O.Output.kind (spread (S.Store.bytes store.now)) index state }
+/// The place of a state's record, as the index has it, if its entry is there.
+pub fn record_place<O: Output, S: Store>(store: &S, index: u32, state: u16) -> usize
+    ensures place { entry_place O.Output.kind (spread (S.Store.bytes store.now)) index state + 32 ≤ length (spread (S.Store.bytes store.now)) → result ≡ record_place O.Output.kind (spread (S.Store.bytes store.now)) index state }
     ensures fits { result < 2 ^ 32 }
 {
-    number_in(store, index + 32 * state, 32) as usize
+    number_in(store, entry_place(index, state), 32) as usize
 }
 
-/// How many keys are accepted from a state, as its record has it.
-pub fn keys_at<O: Output, S: Store>(store: &S, index: usize, state: usize) -> u32
-    requires { (index < 2 ^ 32) × ((state < 2 ^ 16) × (There O.Output.kind (spread (S.Store.bytes store.now)) index state)) }
-    ensures keys { result ≡ keys_at O.Output.kind (spread (S.Store.bytes store.now)) index state }
+/// How many keys are accepted from a state, as its record has it, if that is there.
+pub fn keys_at<O: Output, S: Store>(store: &S, index: u32, state: u16) -> u32
+    ensures keys { There O.Output.kind (spread (S.Store.bytes store.now)) index state → result ≡ keys_at O.Output.kind (spread (S.Store.bytes store.now)) index state }
     ensures fits { result < 2 ^ 20 }
 {
     let place = record_place::<O, S>(store, index, state);

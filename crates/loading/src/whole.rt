@@ -1,5 +1,5 @@
 //! A whole image, step by step.
-ghost use Rattle.std.specs.Prelude.{◌^◌, ◌<◌, length, IfOk};
+ghost use Rattle.std.specs.Prelude.{◌<◌, length, IfOk};
 ghost use Rattle.outputs.specs.Bits.{spread};
 ghost use Rattle.images.specs.Loads.{whole as whole_step};
 ghost use Rattle.loading.specs.Answers.{Answers};
@@ -18,11 +18,11 @@ pub fn read_whole<O: Output, S: Store>(
     working: &mut [u8],
 ) -> Result<(Head<O>, usize), LoadRefusal>
     ensures answers { Answers (WholeRead O.Output.kind O.Output.meaning (spread (S.Store.bytes store.now)) (length working.old)) (whole_step O.Output.kind (spread (S.Store.bytes store.now)) (length working.old) 0) result }
-    ensures within { IfOk result (λ v. (0 < v.0.states) × (v.0.states < 2 ^ 16) × (v.0.index < 2 ^ 32)) }
+    ensures within { IfOk result (λ v. 0 < v.0.states) }
 {
     let (head, index) = read_head::<O, S>(store, 0, working.len())?;
     let records = pass_entries::<O, S>(store, index, head.states)?;
-    let (arcs, ending) = read_records::<O, S>(store, records, index, head.states, working)?;
+    let (arcs, ending) = read_records::<O, S>(store, records, head.index, head.states, working)?;
     let behind = pass_ending::<O, S>(store, ending, &head, arcs, working)?;
     Ok((head, behind))
 }

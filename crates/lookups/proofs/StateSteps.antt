@@ -1,4 +1,4 @@
--- The record of a state that was found through the index, opened or counted. Assumes nothing.
+-- A state that was found through the index, opened or counted. Assumes nothing.
 use Rattle.std.proofs.Common.{◌≡◌, ℕ, zero, suc, ◌+◌, ◌*◌, ◌%◌, ◌<◌, ◌≤◌, Bool, true, leb, List, [], ◌∷◌, ◌++◌, length, get_or, take, drop, Some, None, sym, refl, ap, ◌∙◌, subst, arith, length-append, le-leb}
 use mathlib.Core.Option.{Option, none, some}
 use borrow.Author.Tests.{lt-leb}
@@ -9,26 +9,22 @@ use Rattle.machines.specs.Lists.{at}
 use Rattle.machines.specs.Keys.{is_some}
 use Rattle.machines.specs.Machines.{State, Machine, end_flag, sum_at}
 use Rattle.machines.specs.Counts.{count_each, counts_of}
-use Rattle.machines.proofs.Lists.{at_below, below_at}
-use Rattle.images.specs.Loads.{record_place}
+use Rattle.machines.proofs.Lists.{at_below}
+use Rattle.images.specs.Loads.{entry_place, record_place, keys_at}
+use Rattle.loading.specs.Index.{There}
 use Rattle.loading.specs.declared.held.Loaded.{Loaded}
 use Rattle.loading.specs.Loading.{Holds}
 use Rattle.lookups.specs.declared.states.Opened.{Opened}
 use Rattle.lookups.specs.Standing.{OutputStands, EndStands, StateStands, Stored}
-use Rattle.lookups.specs.Lookups.{bits_of, Placed, OpenedAs, Opens}
+use Rattle.lookups.specs.Lookups.{bits_of, OpenedAs, Opens}
 use Rattle.lookups.proofs.RecordParts.{bits_below, opening_is}
 use Rattle.lookups.proofs.HeldStates.{held_stored}
 
 -- no element behind the last
-pub at_past : {A : Type 0} (xs : List A) (i : ℕ) → length xs ≤ i → at xs i ≡ none
+at_past : {A : Type 0} (xs : List A) (i : ℕ) → length xs ≤ i → at xs i ≡ none
 at_past [] i h = refl
 at_past (x ∷ xs) zero h = absurd (omega arith)
 at_past (x ∷ xs) (suc i) h = at_past xs i (omega arith)
-
-pub past_at : {A : Type 0} (xs : List A) (i : ℕ) → at xs i ≡ none → length xs ≤ i
-past_at [] i h = omega arith
-past_at (x ∷ xs) zero h = let z : ◌≡◌ {A = ℕ} 0 1 = cc in absurd (omega arith)
-past_at (x ∷ xs) (suc i) h = omega (arith, past_at xs i h)
 
 length_each : {A : Type 0} (done : List ℕ) (ss : List (State A)) → length (count_each done ss) ≡ length done + length ss
 length_each done [] = omega arith
@@ -36,7 +32,7 @@ length_each done (s ∷ ss) =
     let own : ℕ = end_flag s.end + sum_at done s.arcs in
     omega (arith, length_each (done ++ (own ∷ [])) ss, length-append done (own ∷ []))
 
-pub length_counts : {A : Type 0} (ss : List (State A)) → length (counts_of ss) ≡ length ss
+length_counts : {A : Type 0} (ss : List (State A)) → length (counts_of ss) ≡ length ss
 length_counts ss = length_each [] ss ∙ omega arith
 
 -- the opening of a record: its flag is set if its ten bits make 512 or more
@@ -48,7 +44,7 @@ flag_one : {A : Type 0} (o : Option A) → end_flag o < 2
 flag_one none = omega arith
 flag_one (some x) = omega arith
 
-pub opened_so : (k : Kind) (all : List Bool) (p v : ℕ) (s : State k.Ideal) → StateStands k all p s → v ≡ value (take 10 (drop p all)) → OpenedAs k all (record { ends = leb 512 v; arcs = v % 512; place = p + 30 }) s
+opened_so : (k : Kind) (all : List Bool) (p v : ℕ) (s : State k.Ideal) → StateStands k all p s → v ≡ value (take 10 (drop p all)) → OpenedAs k all (record { ends = leb 512 v; arcs = v % 512; place = p + 30 }) s
 opened_so k all p v s h e =
     let n : value (take 9 (drop (p + 1) all)) < 512 = bits_below all (p + 1) 9 (omega (arith, h.within)) in
     let t : v ≡ value (take 1 (drop p all)) * 512 + value (take 9 (drop (p + 1) all)) = e ∙ opening_is all p (omega (arith, h.within)) in
@@ -71,35 +67,26 @@ module _ {O S : Type 0} (k : Kind) (meaning : O → k.Ideal) (bytes : S → List
   stored = held_stored k meaning bytes loaded m h
 
   -- beyond the start there is no state
-  pub placed_none : loaded.start < q → Placed k all loaded.index q (at m.states q) None
-  placed_none l = subst (λ (o : Option (State k.Ideal)). Placed k all loaded.index q o None) (sym (at_past m.states q (omega (arith, h.many)))) tt
+  none_there : loaded.start < q → at m.states q ≡ none
+  none_there l = at_past m.states q (omega (arith, h.many))
 
-  pub placed_some : (p : ℕ) → q ≤ loaded.start → (loaded.index + 32 * q + 32 ≤ length all → p ≡ record_place k all loaded.index q) → Placed k all loaded.index q (at m.states q) (Some p)
-  placed_some p l f =
+  pub opens_none : loaded.start < q → Opens k all (at m.states q) None
+  opens_none l = subst (λ (o : Option (State k.Ideal)). Opens k all o None) (sym (none_there l)) tt
+
+  pub opens_some : (p v : ℕ) → q ≤ loaded.start → (entry_place k all loaded.index q + 32 ≤ length all → p ≡ record_place k all loaded.index q) → (p + 10 ≤ length all → v ≡ value (take 10 (drop p all)))
+      → Opens k all (at m.states q) (Some (record { ends = leb 512 v; arcs = v % 512; place = p + 30 }))
+  opens_some p v l at_p is_v =
       let x = at_below m.states q (omega (arith, h.many)) in
-      subst (λ (o : Option (State k.Ideal)). Placed k all loaded.index q o (Some p)) (sym x.1) (f (stored.states q x.0 x.1).entry)
+      let found = stored.states q x.0 x.1 in
+      let there : StateStands k all p x.0 = subst (λ (n : ℕ). StateStands k all n x.0) (sym (at_p found.entry)) found.stands in
+      subst (λ (o : Option (State k.Ideal)). Opens k all o (Some (record { ends = leb 512 v; arcs = v % 512; place = p + 30 }))) (sym x.1)
+      (opened_so k all p v x.0 there (is_v (omega (arith, there.within))))
 
-  pub opens_some : (p v : ℕ) → Placed k all loaded.index q (at m.states q) (Some p) → (p + 10 ≤ length all → v ≡ value (take 10 (drop p all))) → Opens k all (at m.states q) (Some (record { ends = leb 512 v; arcs = v % 512; place = p + 30 }))
-  opens_some p v = go (at m.states q) refl
-    where
-      go : (o : Option (State k.Ideal)) → at m.states q ≡ o → Placed k all loaded.index q o (Some p) → (p + 10 ≤ length all → v ≡ value (take 10 (drop p all)))
-          → Opens k all o (Some (record { ends = leb 512 v; arcs = v % 512; place = p + 30 }))
-      go none e t f = absurd t
-      go (some s) e t f =
-          let there : StateStands k all p s = subst (λ (n : ℕ). StateStands k all n s) (sym t) (stored.states q s e).stands in
-          opened_so k all p v s there (f (omega (arith, there.within)))
+  pub keys_some : (r : ℕ) → q ≤ loaded.start → (There k all loaded.index q → r ≡ keys_at k all loaded.index q) → r ≡ get_or (counts_of m.states) q 0
+  keys_some r l is_r =
+      let x = at_below m.states q (omega (arith, h.many)) in
+      let found = stored.states q x.0 x.1 in
+      is_r (record { entry = found.entry; keys = found.stands.within }) ∙ stored.keys q (omega (arith, h.many))
 
-  pub keys_some : (p r : ℕ) → Placed k all loaded.index q (at m.states q) (Some p) → (p + 10 + 20 ≤ length all → r ≡ value (take 20 (drop (p + 10) all))) → r ≡ get_or (counts_of m.states) q 0
-  keys_some p r = go (at m.states q) refl
-    where
-      go : (o : Option (State k.Ideal)) → at m.states q ≡ o → Placed k all loaded.index q o (Some p) → (p + 10 + 20 ≤ length all → r ≡ value (take 20 (drop (p + 10) all))) → r ≡ get_or (counts_of m.states) q 0
-      go none e t f = absurd t
-      go (some s) e t f =
-          f (omega (arith, t, (stored.states q s e).stands.within)) ∙ ap (λ (n : ℕ). value (take 20 (drop (n + 10) all))) t ∙ stored.keys q (below_at m.states q s e)
-
-  pub keys_none : Placed k all loaded.index q (at m.states q) None → 0 ≡ get_or (counts_of m.states) q 0
-  keys_none = go (at m.states q) refl
-    where
-      go : (o : Option (State k.Ideal)) → at m.states q ≡ o → Placed k all loaded.index q o None → 0 ≡ get_or (counts_of m.states) q 0
-      go none e t = sym (get_or_past (counts_of m.states) q 0 (omega (arith, length_counts m.states, past_at m.states q e)))
-      go (some s) e t = absurd t
+  pub keys_none : loaded.start < q → 0 ≡ get_or (counts_of m.states) q 0
+  keys_none l = sym (get_or_past (counts_of m.states) q 0 (omega (arith, length_counts m.states, h.many)))

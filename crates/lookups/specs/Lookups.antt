@@ -6,7 +6,6 @@ use Rattle.outputs.specs.Kinds.{Kind}
 use Rattle.machines.specs.Keys.{is_some}
 use Rattle.machines.specs.Machines.{Arc, State}
 use Rattle.images.specs.Images.{end_code}
-use Rattle.images.specs.Loads.{record_place}
 use Rattle.loading.specs.declared.held.Loaded.{Loaded}
 use Rattle.lookups.specs.declared.rows.Arc as Code
 use Rattle.lookups.specs.declared.rows.Row.{Row}
@@ -26,13 +25,6 @@ meant meaning (Some x) = some (meaning x)
 abbrev pub OutputRead : {O : Type 0} (k : Kind) → (O → k.Ideal) → ℕ → k.Ideal → Maybe (O × ℕ) → Type 0
 OutputRead k meaning p x None = ⊥
 OutputRead k meaning p x (Some r) = (meaning r.0 ≡ x) × (r.1 ≡ p + length (k.code x))
-
--- the place of the record of state q, if the state is there
-abbrev pub Placed : (k : Kind) → List Bool → ℕ → ℕ → Option (State k.Ideal) → Maybe ℕ → Type 0
-Placed k all index q none None = Unit {0}
-Placed k all index q none (Some p) = ⊥
-Placed k all index q (some s) None = ⊥
-Placed k all index q (some s) (Some p) = p ≡ record_place k all index q
 
 -- a state that was opened: its end output, and then its arcs, stand at the place
 pub record OpenedAs (k : Kind) (all : List Bool) (opened : Opened) (s : State k.Ideal) : Type 0 where
@@ -65,3 +57,8 @@ Next k meaning all [] None = Unit {0}
 Next k meaning all [] (Some r) = ⊥
 Next k meaning all (arc ∷ arcs) None = ⊥
 Next k meaning all (arc ∷ arcs) (Some r) = SameArc k meaning arc r.0 × RowOf k all r.1 arcs
+
+-- the same by the arc that was read, if one was, and the row that is left
+abbrev pub Gives : {O : Type 0} (k : Kind) → (O → k.Ideal) → List Bool → List (Arc k.Ideal) → Maybe (Code.Arc O) → Row → Type 0
+Gives {O} k meaning all arcs None rest = Next {O = O} k meaning all arcs None
+Gives {O} k meaning all arcs (Some read) rest = Next k meaning all arcs (Some (read, rest))

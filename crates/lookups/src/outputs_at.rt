@@ -12,19 +12,12 @@ use stores::Store;
 pub fn output_at<O: Output, S: Store>(loaded: &Loaded<O, S>, place: usize) -> Option<(O, usize)>
     ensures { (x : O.Output.kind.Ideal) → OutputStands O.Output.kind (bits_of S.Store.bytes loaded.now) place x → OutputRead O.Output.kind O.Output.meaning place x result }
 {
-    let bits = StoreBits::new(loaded.store());
-    match O::read(&bits, place) {
-        Ok(found) => Some(found),
-        Err(_) => None,
-    }
+    O::read(&StoreBits::new(loaded.store()), place).ok()
 }
 
 /// The place behind the output at a place.
 pub fn behind_output<O: Output, S: Store>(loaded: &Loaded<O, S>, place: usize) -> usize
     ensures { (x : O.Output.kind.Ideal) → OutputStands O.Output.kind (bits_of S.Store.bytes loaded.now) place x → result ≡ place + length (O.Output.kind.code x) }
 {
-    match output_at(loaded, place) {
-        Some((_output, behind)) => behind,
-        None => place,
-    }
+    output_at(loaded, place).map_or(place, |(_output, behind)| behind)
 }

@@ -1,11 +1,14 @@
 //! The arcs of a state, by their places.
-ghost use Rattle.std.specs.Prelude.{◌≡◌, ◌+◌, ◌^◌, ◌<◌, ◌≤◌, List, length};
+//!
+//! Each clause speaks of whatever arc stands at the place: in a struct of an image and a place it would be the same.
+ghost use Rattle.std.specs.Prelude.{◌≡◌, ◌+◌, ◌^◌, ◌<◌, ◌≤◌, List, length, IfSome};
+ghost use Rattle.std.specs.Iterator.{at_most};
 ghost use Rattle.machines.specs.Machines.{Arc as Edge};
 ghost use Rattle.lookups.specs.Standing.{ArcStands};
-ghost use Rattle.lookups.specs.Lookups.{bits_of, OutputRead, RowOf, Next};
+ghost use Rattle.lookups.specs.Lookups.{bits_of, OutputRead, RowOf, Next, Gives};
 
-use crate::numbers::number_in;
 use crate::outputs_at::{behind_output, output_at};
+use fields::number_in;
 use loading::Loaded;
 use outputs::output::Output;
 use stores::Store;
@@ -55,29 +58,24 @@ pub fn pass_arc<O: Output, S: Store>(loaded: &Loaded<O, S>, place: usize) -> usi
     behind_output(loaded, further(loaded, place, 24))
 }
 
-/// The output of the arc at a place, and the place behind it.
-fn read_output<O: Output, S: Store>(loaded: &Loaded<O, S>, place: usize) -> Option<(O, usize)>
+/// The output of the arc at a place, and the place behind the arc.
+pub fn arc_output<O: Output, S: Store>(loaded: &Loaded<O, S>, place: usize) -> Option<(O, usize)>
     ensures { (arc : Edge O.Output.kind.Ideal) → ArcStands O.Output.kind (bits_of S.Store.bytes loaded.now) place arc → OutputRead O.Output.kind O.Output.meaning (place + 24) arc.output result }
 {
     output_at(loaded, further(loaded, place, 24))
 }
 
-/// The output of the arc at a place, and the place behind the arc.
-pub fn arc_output<O: Output, S: Store>(loaded: &Loaded<O, S>, place: usize) -> Option<(O, usize)>
-    ensures { (arc : Edge O.Output.kind.Ideal) → ArcStands O.Output.kind (bits_of S.Store.bytes loaded.now) place arc → OutputRead O.Output.kind O.Output.meaning (place + 24) arc.output result }
-{
-    read_output(loaded, place)
-}
-
-fn first_arc<O: Output, S: Store>(loaded: &Loaded<O, S>, row: Row) -> Option<(Arc<O>, Row)>
-    ensures { (arcs : List (Edge O.Output.kind.Ideal)) → RowOf O.Output.kind (bits_of S.Store.bytes loaded.now) row arcs → Next O.Output.kind O.Output.meaning (bits_of S.Store.bytes loaded.now) arcs result }
+/// The first arc of a row, and the row behind it.
+pub fn next_arc<O: Output, S: Store>(loaded: &Loaded<O, S>, row: Row) -> Option<(Arc<O>, Row)>
+    ensures first { (arcs : List (Edge O.Output.kind.Ideal)) → RowOf O.Output.kind (bits_of S.Store.bytes loaded.now) row arcs → Next O.Output.kind O.Output.meaning (bits_of S.Store.bytes loaded.now) arcs result }
+    ensures fewer { IfSome result (λ r. r.1.left < row.left) }
 {
     if row.left == 0 {
         return None;
     }
     let byte = byte_at(loaded, row.place);
     let target = target_at(loaded, row.place);
-    let (output, place) = read_output(loaded, row.place)?;
+    let (output, place) = arc_output(loaded, row.place)?;
     let rest = Row {
         left: row.left - 1,
         place,
@@ -92,9 +90,32 @@ fn first_arc<O: Output, S: Store>(loaded: &Loaded<O, S>, row: Row) -> Option<(Ar
     ))
 }
 
-/// The first arc of a row, and the row behind it.
-pub fn next_arc<O: Output, S: Store>(loaded: &Loaded<O, S>, row: Row) -> Option<(Arc<O>, Row)>
-    ensures { (arcs : List (Edge O.Output.kind.Ideal)) → RowOf O.Output.kind (bits_of S.Store.bytes loaded.now) row arcs → Next O.Output.kind O.Output.meaning (bits_of S.Store.bytes loaded.now) arcs result }
-{
-    first_arc(loaded, row)
+/// The arcs of a row, one after another. It ends where the row does, and at an arc that cannot be read, which no image that load takes has.
+#[derive(Drop)]
+pub struct Arcs<'a, O, S> {
+    loaded: &'a Loaded<O, S>,
+    row: Row,
+}
+
+impl<'a, O: Output, S: Store> Arcs<'a, O, S> {
+    pub fn new(loaded: &'a Loaded<O, S>, row: Row) -> Arcs<'a, O, S>
+        ensures loaded { result.loaded.now ≡ loaded.now }
+        ensures row { result.row ≡ row }
+    {
+        Arcs { loaded, row }
+    }
+}
+
+impl<O: Output, S: Store> Iterator for Arcs<'_, O, S> {
+    type Item = Arc<O>;
+
+    ghost next_gives = { λ s read t. (t.loaded.now ≡ s.loaded.now) × ((arcs : List (Edge O.Output.kind.Ideal)) → RowOf O.Output.kind (bits_of S.Store.bytes s.loaded.now) s.row arcs → Gives O.Output.kind O.Output.meaning (bits_of S.Store.bytes s.loaded.now) arcs read t.row) };
+
+    ghost remaining = { λ s. at_most s.row.left };
+
+    fn next(&mut self) -> Option<Arc<O>> {
+        let (arc, rest) = next_arc(self.loaded, self.row)?;
+        self.row = rest;
+        Some(arc)
+    }
 }

@@ -1,15 +1,15 @@
 //! States of a loaded image, through its index.
-ghost use Rattle.std.specs.Prelude.{◌≡◌, ◌+◌, ◌*◌, ◌^◌, ◌<◌, IfSome, slice_index};
+ghost use Rattle.std.specs.Prelude.{◌≡◌, ◌^◌, ◌<◌, slice_index};
 ghost use Rattle.machines.specs.Lists.{at};
 ghost use Rattle.machines.specs.Machines.{State, Machine};
 ghost use Rattle.machines.specs.Counts.{counts_of};
 ghost use Rattle.loading.specs.Loading.{Holds};
-ghost use Rattle.lookups.specs.Lookups.{bits_of, meant, Opens, OpenedAs, RowOf, Placed};
+ghost use Rattle.lookups.specs.Lookups.{bits_of, meant, Opens, OpenedAs, RowOf};
 
-use crate::numbers::number_in;
 use crate::outputs_at::{behind_output, output_at};
 use crate::rows::Row;
-use loading::Loaded;
+use fields::number_in;
+use loading::{Loaded, keys_at, record_place};
 use outputs::output::Output;
 use stores::Store;
 
@@ -20,38 +20,24 @@ pub struct Opened {
     pub ends: bool,
     /// How many arcs it has.
     pub arcs: u32,
-    /// Where its end output begins, and without one its first arc.
+    /// Where its end output begins, and without one its first arc: what is behind an end output is looked for once it is asked for.
     pub place: usize,
-}
-
-/// The place of a state's record, as the index has it, if there is such a state.
-fn record_place<O: Output, S: Store>(loaded: &Loaded<O, S>, state: usize) -> Option<usize>
-    ensures place { (m : Machine O.Output.kind.Ideal) → Holds O.Output.kind O.Output.meaning S.Store.bytes loaded.now m → Placed O.Output.kind (bits_of S.Store.bytes loaded.now) loaded.now.index state (at m.states state) result }
-    ensures fits { IfSome result (λ p. p < 2 ^ 32) }
-{
-    if state > loaded.start() {
-        return None;
-    }
-    Some(number_in(loaded.store(), loaded.index() + 32 * state, 32) as usize)
-}
-
-fn open_record<O: Output, S: Store>(loaded: &Loaded<O, S>, state: usize) -> Option<Opened>
-    ensures { (m : Machine O.Output.kind.Ideal) → Holds O.Output.kind O.Output.meaning S.Store.bytes loaded.now m → Opens O.Output.kind (bits_of S.Store.bytes loaded.now) (at m.states state) result }
-{
-    let place = record_place(loaded, state)?;
-    let opening = number_in(loaded.store(), place, 10);
-    Some(Opened {
-        ends: opening >= 512,
-        arcs: opening % 512,
-        place: place + 30,
-    })
 }
 
 /// Opens a state, if it is there. Its key count is passed over.
 pub fn open<O: Output, S: Store>(loaded: &Loaded<O, S>, state: usize) -> Option<Opened>
     ensures { (m : Machine O.Output.kind.Ideal) → Holds O.Output.kind O.Output.meaning S.Store.bytes loaded.now m → Opens O.Output.kind (bits_of S.Store.bytes loaded.now) (at m.states state) result }
 {
-    open_record(loaded, state)
+    if state > loaded.start() {
+        return None;
+    }
+    let place = record_place::<O, S>(loaded.store(), loaded.index(), state as u16);
+    let opening = number_in(loaded.store(), place, 10);
+    Some(Opened {
+        ends: opening >= 512,
+        arcs: opening % 512,
+        place: place + 30,
+    })
 }
 
 /// The end output of an opened state, if it has one.
@@ -80,20 +66,13 @@ pub fn arcs_of<O: Output, S: Store>(loaded: &Loaded<O, S>, opened: Opened) -> Ro
     }
 }
 
-fn count_from<O: Output, S: Store>(loaded: &Loaded<O, S>, state: usize) -> u32
-    ensures keys { (m : Machine O.Output.kind.Ideal) → Holds O.Output.kind O.Output.meaning S.Store.bytes loaded.now m → result ≡ slice_index (counts_of m.states) state }
-    ensures fits { result < 2 ^ 20 }
-{
-    match record_place(loaded, state) {
-        Some(place) => number_in(loaded.store(), place + 10, 20),
-        None => 0,
-    }
-}
-
 /// How many keys are accepted from a state, and 0 if it is not there.
 pub fn keys_from<O: Output, S: Store>(loaded: &Loaded<O, S>, state: usize) -> u32
     ensures keys { (m : Machine O.Output.kind.Ideal) → Holds O.Output.kind O.Output.meaning S.Store.bytes loaded.now m → result ≡ slice_index (counts_of m.states) state }
     ensures fits { result < 2 ^ 20 }
 {
-    count_from(loaded, state)
+    if state > loaded.start() {
+        return 0;
+    }
+    keys_at::<O, S>(loaded.store(), loaded.index(), state as u16)
 }

@@ -1,6 +1,7 @@
 -- The keys behind the lower arcs of a state, and the rank along a string. Assumes nothing.
 use Rattle.std.proofs.Common.{◌≡◌, ℕ, suc, ◌+◌, ◌^◌, ◌<◌, ◌≤◌, Bool, true, false, List, [], ◌∷◌, length, get_or, drop, Some, None, Option as Maybe, sym, refl, ap, ◌∙◌, subst, inl, inr, add-one, arith, drop-cons}
 use mathlib.Core.Option.{Option, none, some}
+use Rattle.std.specs.Bool.{then_some}
 use Rattle.std.proofs.lemmas.Bool.{cases_lt, cases_eq}
 use Rattle.outputs.specs.Kinds.{Kind}
 use Rattle.machines.specs.Keys.{Key, is_some}
@@ -12,7 +13,7 @@ use Rattle.lookups.specs.declared.rows.Row.{Row}
 use Rattle.lookups.specs.declared.states.Opened.{Opened}
 use Rattle.lookups.specs.Lookups.{OpenedAs, Opens, RowOf}
 use Rattle.reading.specs.declared.ranking.Lower.{Lower}
-use Rattle.reading.specs.Told.{Lowered}
+use Rattle.reading.specs.Told.{told_rank, Lowered}
 use Rattle.reading.proofs.RowScans.{on_same, on_other, keys_lower, keys_not_lower}
 
 module _ {A : Type 0} (counts : List ℕ) (a : ℕ) where
@@ -103,9 +104,9 @@ module _ {A : Type 0} (states : List (State A)) (counts : List ℕ) where
       omega (arith, f s refl, g.3, below_with counts a s.arcs g.0 g.1, ap (λ (n : ℕ). get_or counts n 0) g.2)
 
   -- the end
-  pub rank_ends : (q n : ℕ) (b : Bool) → b ≡ is_some (end_at (at states q)) → (b ≡ true → rank_from states counts q n [] ≡ some n) × (b ≡ false → rank_from states counts q n [] ≡ none)
+  pub rank_ends : (q n : ℕ) (b : Bool) → b ≡ is_some (end_at (at states q)) → told_rank (then_some b n) ≡ rank_from states counts q n []
   rank_ends q n b = go (end_at (at states q))
     where
-      go : (o : Option A) → b ≡ is_some o → (b ≡ true → ◌≡◌ {A = Option ℕ} (elim o [ none ↦ none | some x ↦ some n ]) (some n)) × (b ≡ false → ◌≡◌ {A = Option ℕ} (elim o [ none ↦ none | some x ↦ some n ]) none)
-      go none e = (λ t. let z : ◌≡◌ {A = ℕ} 0 1 = cc in absurd (omega arith), λ t. refl)
-      go (some x) e = (λ t. refl, λ t. let z : ◌≡◌ {A = ℕ} 0 1 = cc in absurd (omega arith))
+      go : (o : Option A) → b ≡ is_some o → ◌≡◌ {A = Option ℕ} (told_rank (then_some b n)) (elim o [ none ↦ none | some x ↦ some n ])
+      go none e = ap {A = Bool} {B = Option ℕ} (λ t. told_rank (then_some t n)) e
+      go (some x) e = ap {A = Bool} {B = Option ℕ} (λ t. told_rank (then_some t n)) e

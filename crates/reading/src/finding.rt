@@ -30,18 +30,6 @@ fn finish<O: Output, S: Store>(
     Ok(Some(output))
 }
 
-fn find_key<O: Output, S: Store>(
-    loaded: &Loaded<O, S>,
-    key: &[u8],
-) -> Result<Option<O>, ReadRefusal>
-    ensures { (m : Machine O.Output.kind.Ideal) → Holds O.Output.kind O.Output.meaning S.Store.bytes loaded.now m → told_of O.Output.meaning result ≡ find_of O.Output.kind m key.now }
-{
-    match walk(loaded, key)? {
-        None => Ok(None),
-        Some(reached) => finish(loaded, reached),
-    }
-}
-
 /// The output of a key, and `None` for a string that is no key.
 ///
 /// It refuses exactly if a join on the way is not storable, which no image of a dictionary has.
@@ -51,5 +39,8 @@ pub fn find<O: Output, S: Store>(
 ) -> Result<Option<O>, ReadRefusal>
     ensures { (m : Machine O.Output.kind.Ideal) → Holds O.Output.kind O.Output.meaning S.Store.bytes loaded.now m → told_of O.Output.meaning result ≡ find_of O.Output.kind m key.now }
 {
-    find_key(loaded, key)
+    let Some(reached) = walk(loaded, key)? else {
+        return Ok(None);
+    };
+    finish(loaded, reached)
 }

@@ -17,7 +17,7 @@ use lookups::{Row, arcs_of, byte_at, keys_from, open, pass_arc, target_at};
 use outputs::output::Output;
 use stores::Store;
 
-/// Where an arc leads to, and how many keys are lower.
+/// Where bytes lead to, and how many keys are lower.
 #[derive(Clone, Copy)]
 pub struct Lower {
     pub target: usize,
@@ -33,9 +33,10 @@ fn sum_lower<O: Output, S: Store>(
 ) -> Option<Lower>
     ensures { (m : Machine O.Output.kind.Ideal) → Holds O.Output.kind O.Output.meaning S.Store.bytes loaded.now m → (arcs : List (Edge O.Output.kind.Ideal)) → Rising arcs → RowOf O.Output.kind (bits_of S.Store.bytes loaded.now) row arcs → before + sum_at (counts_of m.states) arcs < 2 ^ 20 → Lowered (arc_on byte arcs) (before + keys_below (counts_of m.states) byte arcs) result }
 {
+    // By places and not by `Arcs`: of the arc that is found no output is read.
     let mut place = row.place;
     let mut keys = before;
-    for i in 0..row.left {
+    for _ in 0..row.left {
         let here = byte_at(loaded, place);
         if here > byte {
             return None;
@@ -63,33 +64,25 @@ fn count_lower<O: Output, S: Store>(loaded: &Loaded<O, S>, state: usize, byte: u
 fn ends<O: Output, S: Store>(loaded: &Loaded<O, S>, state: usize) -> bool
     ensures { (m : Machine O.Output.kind.Ideal) → Holds O.Output.kind O.Output.meaning S.Store.bytes loaded.now m → result ≡ is_some (end_at (at m.states state)) }
 {
-    match open(loaded, state) {
-        Some(opened) => opened.ends,
-        None => false,
-    }
-}
-
-fn rank_key<O: Output, S: Store>(loaded: &Loaded<O, S>, key: &[u8]) -> Option<u32>
-    ensures { (m : Machine O.Output.kind.Ideal) → Holds O.Output.kind O.Output.meaning S.Store.bytes loaded.now m → told_rank result ≡ rank_in m (counts_of m.states) key.now }
-{
-    let mut state = loaded.start();
-    let mut keys = 0u32;
-    for byte in key {
-        let next = count_lower(loaded, state, *byte)?;
-        keys = keys.saturating_add(next.keys);
-        state = next.target;
-    }
-    if !ends(loaded, state) {
-        return None;
-    }
-    Some(keys)
+    open(loaded, state).is_some_and(|opened| opened.ends)
 }
 
 /// How many keys are lower than a key, and `None` for a string that is no key.
 pub fn rank<O: Output, S: Store>(loaded: &Loaded<O, S>, key: &[u8]) -> Option<u32>
     ensures { (m : Machine O.Output.kind.Ideal) → Holds O.Output.kind O.Output.meaning S.Store.bytes loaded.now m → told_rank result ≡ rank_in m (counts_of m.states) key.now }
 {
-    rank_key(loaded, key)
+    let mut lower = Lower {
+        target: loaded.start(),
+        keys: 0,
+    };
+    for byte in key {
+        let next = count_lower(loaded, lower.target, *byte)?;
+        lower = Lower {
+            target: next.target,
+            keys: lower.keys.saturating_add(next.keys),
+        };
+    }
+    ends(loaded, lower.target).then_some(lower.keys)
 }
 
 /// Of the minimal machine of some pairs, rank is the number of pairs with a lower key.

@@ -16,8 +16,9 @@ use stores::Store;
 fn seek<O: Output, S: Store>(loaded: &Loaded<O, S>, row: Row, byte: u8) -> Option<usize>
     ensures { (arcs : List (Edge O.Output.kind.Ideal)) → Rising arcs → RowOf O.Output.kind (bits_of S.Store.bytes loaded.now) row arcs → Sought O.Output.kind (bits_of S.Store.bytes loaded.now) (arc_on byte arcs) result }
 {
+    // By places and not by `Arcs`: of an arc that is passed over no target is read, and nothing is read behind the last one.
     let mut place = row.place;
-    for i in 0..row.left {
+    for _ in 0..row.left {
         let here = byte_at(loaded, place);
         if here == byte {
             return Some(place);

@@ -21,22 +21,21 @@ pub struct Reached<O: Copy> {
     pub output: O,
 }
 
-/// One byte further, from a state with an output so far.
+/// One byte further from where a string leads to.
 fn step<O: Output, S: Store>(
     loaded: &Loaded<O, S>,
-    state: usize,
-    output: O,
+    reached: Reached<O>,
     byte: u8,
 ) -> Result<Option<Reached<O>>, ReadRefusal>
-    ensures { (m : Machine O.Output.kind.Ideal) → Holds O.Output.kind O.Output.meaning S.Store.bytes loaded.now m → told_walk O.Output.meaning result ≡ walk_from O.Output.kind m.states state (O.Output.meaning output) (byte ∷ []) }
+    ensures { (m : Machine O.Output.kind.Ideal) → Holds O.Output.kind O.Output.meaning S.Store.bytes loaded.now m → told_walk O.Output.meaning result ≡ walk_from O.Output.kind m.states reached.state (O.Output.meaning reached.output) (byte ∷ []) }
 {
-    let Some(place) = arc_place(loaded, state, byte) else {
+    let Some(place) = arc_place(loaded, reached.state, byte) else {
         return Ok(None);
     };
     let Some((label, _behind)) = arc_output(loaded, place) else {
         return Ok(None);
     };
-    let output = join(output, label)?;
+    let output = join(reached.output, label)?;
     let state = target_at(loaded, place);
     Ok(Some(Reached { state, output }))
 }
@@ -48,16 +47,15 @@ pub(crate) fn walk<O: Output, S: Store>(
 ) -> Result<Option<Reached<O>>, ReadRefusal>
     ensures { (m : Machine O.Output.kind.Ideal) → Holds O.Output.kind O.Output.meaning S.Store.bytes loaded.now m → told_walk O.Output.meaning result ≡ walk_of O.Output.kind m string.now }
 {
-    let mut state = loaded.start();
-    let mut output = loaded.start_output();
+    let mut reached = Reached {
+        state: loaded.start(),
+        output: loaded.start_output(),
+    };
     for byte in string {
-        match step(loaded, state, output, *byte)? {
-            None => return Ok(None),
-            Some(reached) => {
-                state = reached.state;
-                output = reached.output;
-            }
-        }
+        let Some(further) = step(loaded, reached, *byte)? else {
+            return Ok(None);
+        };
+        reached = further;
     }
-    Ok(Some(Reached { state, output }))
+    Ok(Some(reached))
 }

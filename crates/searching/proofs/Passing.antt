@@ -1,5 +1,5 @@
 -- The arcs of a state that a search has passed, and what is found there. Assumes the laws of a kind.
-use Rattle.std.proofs.Common.{◌≡◌, ℕ, ◌+◌, ◌<◌, Bool, List, [], ◌∷◌, ◌++◌, length, Some, None, sym, refl, ap, ◌∙◌, subst, append_assoc, append-nil, arith, length-append}
+use Rattle.std.proofs.Common.{◌≡◌, ℕ, ◌+◌, Bool, List, [], ◌∷◌, ◌++◌, Some, None, sym, refl, ap, ◌∙◌, subst, append_assoc, append-nil}
 use mathlib.Core.Option.{Option, none, some}
 use Rattle.outputs.specs.Kinds.{Kind, Laws}
 use Rattle.machines.specs.Lists.{at, Each}
@@ -23,12 +23,11 @@ pub not_opened : (k : Kind) (all : List Bool) (o : Option (State k.Ideal)) → O
 not_opened k all none h = refl
 not_opened k all (some s) h = absurd h
 
--- i arcs of a state are passed, and none of them leads to a string with the output x; the others stand in a row
-pub record Passed (k : Kind) (all : List Bool) (states : List (State k.Ideal)) (arcs : List (Arc k.Ideal)) (x : k.Ideal) (d i : ℕ) (row : Row) : Type 0 where
+-- some arcs of a state are passed, and none of them leads to a string with the output x; the others stand in a row
+pub record Passed (k : Kind) (all : List Bool) (states : List (State k.Ideal)) (arcs : List (Arc k.Ideal)) (x : k.Ideal) (d : ℕ) (row : Row) : Type 0 where
   pub done : List (Arc k.Ideal)
   pub more : List (Arc k.Ideal)
   pub split : arcs ≡ done ++ more
-  pub many : length done ≡ i
   pub fruitless : Each (Fruitless k states x d) done
   pub stands : RowOf k all row more
 
@@ -45,48 +44,38 @@ module _ {O : Type 0} (k : Kind) (laws : Laws k) (meaning : O → k.Ideal) (all 
   first_of [] read h = absurd h
   first_of (arc ∷ arcs) read h = record { arc = arc; behind = arcs; split = refl; same = h.0; stands = h.1 }
 
-  -- a row that has no arc is empty
-  none_left : (arcs : List (Arc k.Ideal)) → Next {O = O} k meaning all arcs None → length arcs ≡ 0
-  none_left [] h = refl
-  none_left (arc ∷ arcs) h = absurd h
-
   module _ (states : List (State k.Ideal)) (arcs : List (Arc k.Ideal)) (x : k.Ideal) (d : ℕ) where
-    pub passed_none : (row : Row) → RowOf k all row arcs → Passed k all states arcs x d 0 row
-    passed_none row h = record { done = []; more = arcs; split = refl; many = refl; fruitless = tt; stands = h }
+    pub passed_none : (row : Row) → RowOf k all row arcs → Passed k all states arcs x d row
+    passed_none row h = record { done = []; more = arcs; split = refl; fruitless = tt; stands = h }
 
-    module _ (i : ℕ) (row : Row) (p : Passed k all states arcs x d i row) where
-      -- as many are passed as there are
-      pub passed_all : i ≡ length arcs → Each (Fruitless k states x d) arcs
-      passed_all e = go p.more p.split
+    module _ (row : Row) (p : Passed k all states arcs x d row) where
+      -- no arc is left: all are passed
+      pub passed_all : Next {O = O} k meaning all p.more None → Each (Fruitless k states x d) arcs
+      passed_all = go p.more p.split
         where
-          go : (more : List (Arc k.Ideal)) → arcs ≡ p.done ++ more → Each (Fruitless k states x d) arcs
-          go [] f = subst (Each (Fruitless k states x d)) (sym (append-nil p.done) ∙ sym f) p.fruitless
-          go (a ∷ more) f = absurd (omega (arith, ap length f, length-append p.done (a ∷ more), p.many))
-
-      -- a row of fewer has another arc
-      pub not_none : i < length arcs → Next {O = O} k meaning all p.more None → ⊥
-      not_none l h = omega (arith, none_left p.more h, ap length p.split, length-append p.done p.more, p.many)
+          go : (more : List (Arc k.Ideal)) → arcs ≡ p.done ++ more → Next {O = O} k meaning all more None → Each (Fruitless k states x d) arcs
+          go [] f h = subst (Each (Fruitless k states x d)) (sym (append-nil p.done) ∙ sym f) p.fruitless
+          go (a ∷ more) f h = absurd h
 
       module _ (read : Code.Arc O × Row) (h : Next k meaning all p.more (Some read)) where
         first : First k meaning all p.more read
         first = first_of p.more read h
 
-        passed_more : Fruitless k states x d first.arc → Passed k all states arcs x d (i + 1) read.1
+        passed_more : Fruitless k states x d first.arc → Passed k all states arcs x d read.1
         passed_more f =
             record {
               done = p.done ++ (first.arc ∷ []);
               more = first.behind;
               split = p.split ∙ ap (λ (z : List (Arc k.Ideal)). p.done ++ z) first.split ∙ sym (append_assoc p.done (first.arc ∷ []) first.behind);
-              many = length-append p.done (first.arc ∷ []) ∙ omega (arith, p.many);
               fruitless = each_more (Fruitless k states x d) p.done first.arc p.fruitless f;
               stands = first.stands;
             }
 
         -- its output is no prefix, or nothing is found behind it
-        pub passed_other : Left k meaning (meaning read.0.output) x None → Passed k all states arcs x d (i + 1) read.1
+        pub passed_other : Left k meaning (meaning read.0.output) x None → Passed k all states arcs x d read.1
         passed_other n = passed_more (no_prefix_fruitless k laws states x d first.arc (λ e. n (e.0, ap (λ (z : k.Ideal). k.join z e.0) first.same.output ∙ e.1)))
 
-        pub passed_behind : (y : O) → Left k meaning (meaning read.0.output) x (Some y) → Nowhere k states read.0.target (meaning y) (d + 1) → Passed k all states arcs x d (i + 1) read.1
+        pub passed_behind : (y : O) → Left k meaning (meaning read.0.output) x (Some y) → Nowhere k states read.0.target (meaning y) (d + 1) → Passed k all states arcs x d read.1
         passed_behind y e n =
             passed_more (left_fruitless k laws states x (meaning y) d first.arc (ap (λ (z : k.Ideal). k.join z (meaning y)) (sym first.same.output) ∙ e)
             (subst (λ (t : ℕ). Nowhere k states t (meaning y) (d + 1)) first.same.target n))

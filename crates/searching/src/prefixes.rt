@@ -15,9 +15,5 @@ fn is_prefix<O: Output>(part: &O, output: &O) -> bool
 pub fn left<O: Output>(output: &O, part: &O) -> Option<O>
     ensures { Left O.Output.kind O.Output.meaning (O.Output.meaning part.now) (O.Output.meaning output.now) result }
 {
-    if is_prefix(part, output) {
-        Some(output.rest(part))
-    } else {
-        None
-    }
+    is_prefix(part, output).then(|| output.rest(part))
 }

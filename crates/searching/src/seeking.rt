@@ -1,5 +1,5 @@
 //! The search for a string with an output, state by state.
-ghost use Rattle.std.specs.Prelude.{◌≡◌, ◌<◌, ◌≤◌, length, slice_set};
+ghost use Rattle.std.specs.Prelude.{◌≤◌, length};
 ghost use Rattle.std.proofs.Math.Option.{some as one};
 ghost use Rattle.outputs.specs.Joins.{Tells};
 ghost use Rattle.machines.specs.Machines.{State};
@@ -9,7 +9,7 @@ ghost use Rattle.searching.specs.Searches.{Sought};
 
 use crate::prefixes::left;
 use loading::Loaded;
-use lookups::{Opened, arcs_of, end_output, next_arc, open};
+use lookups::{Arcs, Opened, arcs_of, end_output, open};
 use outputs::output::Output;
 use stores::Store;
 
@@ -17,18 +17,7 @@ use stores::Store;
 fn ends_with<O: Output, S: Store>(loaded: &Loaded<O, S>, opened: Opened, output: &O) -> bool
     ensures { (s : State O.Output.kind.Ideal) → OpenedAs O.Output.kind (bits_of S.Store.bytes loaded.now) opened s → Tells s.end (one (O.Output.meaning output.now)) result }
 {
-    match end_output(loaded, opened) {
-        Some(end) => end.same(output),
-        None => false,
-    }
-}
-
-/// Writes a byte at a place of a buffer.
-fn put(buffer: &mut [u8], place: usize, byte: u8)
-    requires { place < length buffer.old }
-    ensures { buffer.new ≡ slice_set buffer.old place byte }
-{
-    buffer[place] = byte;
+    end_output(loaded, opened).is_some_and(|end| end.same(output))
 }
 
 /// Looks for a string that puts out an output from a state on, which `depth` bytes lead to.
@@ -52,16 +41,13 @@ pub fn seek<O: Output, S: Store>(
     if depth == 64 {
         return None;
     }
-    let mut row = arcs_of(loaded, opened);
-    for _i in 0..opened.arcs {
-        let (arc, behind) = next_arc(loaded, row)?;
+    for arc in Arcs::new(loaded, arcs_of(loaded, opened)) {
         if let Some(rest) = left(output, &arc.output) {
             if let Some(end) = seek(loaded, arc.target, &rest, depth + 1, buffer) {
-                put(buffer, depth, arc.byte);
+                buffer[depth] = arc.byte;
                 return Some(end);
             }
         }
-        row = behind;
     }
     None
 }

@@ -6,7 +6,7 @@ use Rattle.loading.proofs.StateRows.{begins, more, stops, ends}
 use Rattle.loading.proofs.records.read_records.Goals as goal
 
 pub loop-state-init : goal.loop-state-init
-loop-state-init g c = (omega arith, (omega arith, omega arith), λ t l. absurd (omega arith), begins g.O.Output.kind (spread (g.S.Store.bytes c.args.store.now)) c.args.index c.args.states c.args.place c.args.working.now)
+loop-state-init g c = (omega arith, omega arith, λ t l. absurd (omega arith), begins g.O.Output.kind (spread (g.S.Store.bytes c.args.store.now)) c.args.index c.args.states c.args.place c.args.working.now)
 
 pub returns-in_err-count : goal.returns-in_err-count
 returns-in_err-count g c =
@@ -23,8 +23,8 @@ loop-state-preserved g c =
     let all = spread (g.S.Store.bytes c.args.store.now) in
     let a = c.in_ok-count.ensures in (
       omega (arith, a.within.0),
-      (a.within.1, a.within.2),
-      below_more _ _ c.loop-state.invariant.2 a.within.3,
+      a.within.1,
+      below_more _ _ c.loop-state.invariant.2 a.within.2,
       more k all c.args.index c.args.states c.args.place c.loop-state.state c.loop-state.arcs c.loop-state.here c.loop-state.working c.loop-state.invariant.3
           (c.in_ok-count.count, c.in_ok-count.behind) _ (omega arith) a.answers,
     )
@@ -36,5 +36,5 @@ returns g c =
     let i = c.loop-state.invariant in
     record {
       answers = ends k all c.args.index c.args.states c.args.place c.loop-state.state c.loop-state.arcs c.loop-state.here c.loop-state.working i.3 (omega arith);
-      within = (i.1.0, i.1.1, λ t l. i.2 t (omega arith));
+      within = (i.1, λ t l. i.2 t (omega arith));
     }

@@ -7,8 +7,8 @@ use Rattle.lookups.specs.Lookups.{bits_of, RowOf}
 use Rattle.reading.proofs.RowScans.{Summed}
 use Rattle.reading.proofs.ranking.sum_lower.Given as goal
 
-abbrev pub invariant-loop-i : goal.invariant-loop-i
-invariant-loop-i g l =
+abbrev pub invariant-loop : goal.invariant-loop
+invariant-loop g l =
     (m : Machine g.O.Output.kind.Ideal) → Holds g.O.Output.kind g.O.Output.meaning g.S.Store.bytes l.loaded m
-    → (arcs : List (Arc g.O.Output.kind.Ideal)) → Rising arcs → RowOf g.O.Output.kind (bits_of g.S.Store.bytes l.loaded) (record { left = l.i-end; place = l.initial.place }) arcs → l.before + sum_at (counts_of m.states) arcs < 2 ^ 20
-    → Summed g.O.Output.kind (bits_of g.S.Store.bytes l.loaded) (counts_of m.states) l.byte l.before arcs (l.i-end - l.i) l.place l.keys
+    → (arcs : List (Arc g.O.Output.kind.Ideal)) → Rising arcs → RowOf g.O.Output.kind (bits_of g.S.Store.bytes l.loaded) (record { left = l.end; place = l.initial.place }) arcs → l.before + sum_at (counts_of m.states) arcs < 2 ^ 20
+    → Summed g.O.Output.kind (bits_of g.S.Store.bytes l.loaded) (counts_of m.states) l.byte l.before arcs (l.end - l.counter) l.place l.keys

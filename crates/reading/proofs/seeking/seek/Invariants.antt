@@ -5,7 +5,7 @@ use Rattle.lookups.specs.Lookups.{bits_of, RowOf}
 use Rattle.reading.proofs.RowScans.{Scanned}
 use Rattle.reading.proofs.seeking.seek.Given as goal
 
-abbrev pub invariant-loop-i : goal.invariant-loop-i
-invariant-loop-i g l =
-    (arcs : List (Arc g.O.Output.kind.Ideal)) → Rising arcs → RowOf g.O.Output.kind (bits_of g.S.Store.bytes l.loaded) (record { left = l.i-end; place = l.initial.place }) arcs
-    → Scanned g.O.Output.kind (bits_of g.S.Store.bytes l.loaded) l.byte arcs (l.i-end - l.i) l.place
+abbrev pub invariant-loop : goal.invariant-loop
+invariant-loop g l =
+    (arcs : List (Arc g.O.Output.kind.Ideal)) → Rising arcs → RowOf g.O.Output.kind (bits_of g.S.Store.bytes l.loaded) (record { left = l.end; place = l.initial.place }) arcs
+    → Scanned g.O.Output.kind (bits_of g.S.Store.bytes l.loaded) l.byte arcs (l.end - l.counter) l.place

@@ -8,7 +8,8 @@ abbrev pub decreases-seek : goal.decreases-seek
 decreases-seek g l = 64 - l.depth
 
 -- the buffer is as it was, and the arcs passed lead to nothing
-abbrev pub invariant-loop-i : goal.invariant-loop-i
-invariant-loop-i g l =
+abbrev pub invariant-loop-arc : goal.invariant-loop-arc
+invariant-loop-arc g l =
     (l.buffer ≡ l.initial.buffer)
-    × Passing g.O.Output.kind (bits_of g.S.Store.bytes l.loaded) (Holds g.O.Output.kind g.O.Output.meaning g.S.Store.bytes l.loaded) l.state (g.O.Output.meaning l.output) l.depth l._i l.row
+    × (l.arc-iterator.loaded.now ≡ l.loaded)
+    × Passing g.O.Output.kind (bits_of g.S.Store.bytes l.loaded) (Holds g.O.Output.kind g.O.Output.meaning g.S.Store.bytes l.loaded) l.state (g.O.Output.meaning l.output) l.depth l.arc-iterator.row

@@ -1,7 +1,7 @@
 use Rattle.std.proofs.Common.{ℕ, sym, subst}
 use Rattle.lookups.specs.Standing.{OutputStands}
 use Rattle.lookups.specs.Lookups.{bits_of, OutputRead}
-use Rattle.lookups.proofs.rows.read_output.Goals as goal
+use Rattle.lookups.proofs.rows.arc_output.Goals as goal
 
 pub returns : goal.returns
 returns g c = λ arc h.
