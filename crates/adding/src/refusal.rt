@@ -3,7 +3,7 @@ ghost use Rattle.std.specs.Prelude.{◌≡◌};
 ghost use Rattle.adding.specs.Refusals.{refusal_number};
 
 /// The first reason that applies, in this order.
-#[derive(Clone, Copy)]
+#[derive(Clone, Copy, PartialEq, Eq, Debug)]
 pub enum AddRefusal {
     /// The key has more than 64 bytes.
     LongKey,

@@ -3,7 +3,7 @@ ghost use Rattle.std.specs.Prelude.{◌≡◌};
 ghost use Rattle.builder.specs.Refusals.{memory_number, seal_number};
 
 /// The first reason that applies, in this order.
-#[derive(Clone, Copy)]
+#[derive(Clone, Copy, PartialEq, Eq, Debug)]
 pub enum MemoryRefusal {
     /// There is no room for a state, or for more than 65535.
     StateMemory,
@@ -27,7 +27,7 @@ impl MemoryRefusal {
 }
 
 /// Why a builder is not sealed.
-#[derive(Clone, Copy)]
+#[derive(Clone, Copy, PartialEq, Eq, Debug)]
 pub enum SealRefusal {
     /// No pair was taken.
     NoPair,
