@@ -2,32 +2,42 @@
 #![tactic(auto)]
 
 mod stored;
-mod table;
 
-use reference::sheets::{Kind, SHEETS};
+use output_trials::agreement::compare;
+use output_trials::twin::Twin;
+use reference::samples::Sheet;
 use reference::tally::Tally;
-use reference::values::{PlainNumber, PlainText};
-use table::print_sheet;
+use stored::print_stored;
+use tables::{AtKind, Compiled, at_each_sheet, print_calls, print_compiled, print_figures};
+
+// What came of the sheets so far.
+#[derive(Drop)]
+struct Bench<'a> {
+    rt: &'a HostRuntime,
+    figures: Tally,
+    calls: Tally,
+}
+
+impl AtKind for Bench<'_> {
+    fn at<V: Twin>(&mut self, sheet: &Sheet) -> anyhow::Result<()> {
+        let Compiled { pairs, image } = print_compiled::<V>(self.rt, sheet, &mut self.figures)?;
+        print_stored(self.rt, image.as_slice())?;
+        compare(self.rt.alloc(), pairs.as_slice(), &mut self.calls)?;
+        Ok(())
+    }
+}
 
 fn main(rt: HostRuntime) -> anyhow::Result<()> {
     run(&rt)
 }
 
 fn run(rt: &HostRuntime) -> anyhow::Result<()> {
-    let mut tally = Tally::new();
-    let mut calls = Tally::new();
-    for sheet in SHEETS.iter() {
-        match sheet.kind {
-            Kind::Numbers => print_sheet::<PlainNumber>(rt, sheet, &mut tally, &mut calls)?,
-            Kind::Texts => print_sheet::<PlainText>(rt, sheet, &mut tally, &mut calls)?,
-        }
-    }
-    let same = calls.agree;
-    let other = calls.differ;
-    println!(rt; "the calls of the crate outputs: {same} answers agree, {other} differ")?;
-    let count = SHEETS.len();
-    let agree = tally.agree;
-    let differ = tally.differ;
-    println!(rt; "{count} sheets, {agree} figures agree, {differ} differ")?;
-    Ok(())
+    let mut bench = Bench {
+        rt,
+        figures: Tally::new(),
+        calls: Tally::new(),
+    };
+    at_each_sheet(&mut bench)?;
+    print_calls(rt, bench.calls)?;
+    print_figures(rt, bench.figures)
 }

@@ -41,9 +41,9 @@ fn print_head(rt: &HostRuntime, memory: &str, head: Head) -> anyhow::Result<()> 
 fn stored_head<S: Store>(store: &mut S, image: &[u8]) -> anyhow::Result<Head> {
     let place = store.count();
     for byte in image {
-        if store.append(*byte).is_err() {
-            return Err(anyhow!("the store has no room for the image"));
-        }
+        store
+            .append(*byte)
+            .map_err(|_| anyhow!("the store has no room for the image"))?;
     }
     head_at(&Tail::new(&*store, place))
 }
@@ -58,8 +58,5 @@ fn head_at<S: Store>(store: &S) -> anyhow::Result<Head> {
 }
 
 fn number<S: Store>(store: &S, place: usize, width: usize) -> anyhow::Result<u32> {
-    match field(store, place, width) {
-        Ok(number) => Ok(number),
-        Err(_) => Err(anyhow!("the store ends inside the head")),
-    }
+    field(store, place, width).map_err(|_| anyhow!("the store ends inside the head"))
 }

@@ -13,19 +13,15 @@ pub fn rows_of<'a, 'b, O: Output>(sealed: &'b Sealed<'a, O>) -> Rows<'b, O> {
 
 /// Whether states, arcs, keys, outputs and counts are those of a plain machine.
 pub fn agrees<'b, V: Twin>(machine: &Machine<V>, rows: &Rows<'b, V::Proved>) -> bool {
-    if rows.states.len() != machine.states.len()
-        || rows.arcs.len() != machine.arc_count()
-        || rows.keys as usize != machine.keys
-        || !machine.start.means(&rows.start)
-    {
-        return false;
-    }
-    for (plain, state) in machine.states.iter().zip(rows.states.iter()) {
-        if !same_state(plain, state, rows.arcs) {
-            return false;
-        }
-    }
-    true
+    rows.states.len() == machine.states.len()
+        && rows.arcs.len() == machine.arc_count()
+        && rows.keys as usize == machine.keys
+        && machine.start.means(&rows.start)
+        && machine
+            .states
+            .iter()
+            .zip(rows.states)
+            .all(|(plain, state)| same_state(plain, state, rows.arcs))
 }
 
 fn same_state<V: Twin>(
@@ -34,25 +30,27 @@ fn same_state<V: Twin>(
     arcs: &[Arc<V::Proved>],
 ) -> bool {
     let own = arcs_of(state, arcs);
-    if plain.keys != state.keys as usize
-        || plain.arcs.len() != own.len()
-        || !same_end(plain, state)
-    {
-        return false;
-    }
-    for (plain, arc) in plain.arcs.iter().zip(own.iter()) {
-        if !same_arc(plain, arc) {
-            return false;
-        }
-    }
-    true
+    plain.keys == state.keys as usize
+        && plain.arcs.len() == own.len()
+        && same_end(plain, state)
+        && plain
+            .arcs
+            .iter()
+            .zip(own)
+            .all(|(plain, arc)| same_arc(plain, arc))
 }
 
 fn same_end<V: Twin>(plain: &PlainState<V>, state: &State<V::Proved>) -> bool {
-    match &plain.end {
-        Some(output) => state.ends && output.means(&state.end),
-        None => !state.ends,
+    match (&plain.end, end_of(state)) {
+        (Some(output), Some(end)) => output.means(&end),
+        (None, None) => true,
+        _ => false,
     }
+}
+
+/// What is put out where a key ends in a state.
+fn end_of<O: Output>(state: &State<O>) -> Option<O> {
+    state.ends.then_some(state.end)
 }
 
 fn same_arc<V: Twin>(plain: &PlainArc<V>, arc: &Arc<V::Proved>) -> bool {
@@ -65,10 +63,7 @@ fn same_arc<V: Twin>(plain: &PlainArc<V>, arc: &Arc<V::Proved>) -> bool {
 fn arcs_of<'b, O: Output>(state: &State<O>, arcs: &'b [Arc<O>]) -> &'b [Arc<O>] {
     let first = arcs.len().saturating_sub(state.first as usize);
     let end = first.saturating_add(state.count as usize);
-    if end > arcs.len() {
-        return &[];
-    }
-    &arcs[first..end]
+    arcs.get(first..end).unwrap_or(&[])
 }
 
 /// The state that a byte string leads to, and what is put out on the way.
@@ -83,27 +78,18 @@ pub fn walk<'b, O: Output>(rows: &Rows<'b, O>, string: &[u8]) -> Option<(State<O
     Some((state, output))
 }
 
-fn arc_on<O: Output>(arcs: &[Arc<O>], byte: u8) -> Option<Arc<O>> {
-    for arc in arcs {
-        if arc.byte == byte {
-            return Some(*arc);
-        }
-    }
-    None
+fn arc_on<O: Output>(arcs: &[Arc<O>], byte: u8) -> Option<&Arc<O>> {
+    arcs.iter().find(|arc| arc.byte == byte)
 }
 
 /// What is put out where a byte string ends.
 pub fn end_after<'b, O: Output>(rows: &Rows<'b, O>, string: &[u8]) -> Option<O> {
-    let (state, _output) = walk(rows, string)?;
-    if state.ends { Some(state.end) } else { None }
+    let (state, _) = walk(rows, string)?;
+    end_of(&state)
 }
 
 /// The output of a key.
 pub fn answer<'b, O: Output>(rows: &Rows<'b, O>, key: &[u8]) -> Option<O> {
     let (state, output) = walk(rows, key)?;
-    if state.ends {
-        Some(output.join(&state.end))
-    } else {
-        None
-    }
+    Some(output.join(&end_of(&state)?))
 }

@@ -3,6 +3,5 @@
 
 pub mod agreeing;
 pub mod building;
-pub mod dice;
 pub mod lists;
 pub mod trial;

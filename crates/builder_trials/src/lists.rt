@@ -1,11 +1,14 @@
 //! Lists of pairs that look thrown: few letters and short keys, so that prefixes and endings meet.
-use crate::dice::Dice;
+use dice::Dice;
 use naive::adding::Room;
 use output_trials::twin::Twin;
 use reference::fault::Fault;
-use reference::machine::Pair;
 use reference::values::{PlainNumber, PlainText};
+use sheets::Pair;
 use std::alloc::Global;
+
+/// Dice for lists.
+pub type ListDice = Dice<16>;
 
 /// Plain outputs for lists.
 pub trait Thrown: Twin {
@@ -35,7 +38,7 @@ impl Thrown for PlainText {
 }
 
 /// A list of up to ten pairs. Its keys mostly ascend, some come twice, and now and then one is too long.
-pub fn thrown_list<V: Thrown>(heap: Global, dice: &mut Dice) -> Result<Vec<Pair<V>>, Fault> {
+pub fn thrown_list<V: Thrown>(heap: Global, dice: &mut ListDice) -> Result<Vec<Pair<V>>, Fault> {
     let letters = 1usize.saturating_add(dice.below(3));
     let mut keys = Vec::new(heap);
     for _ in 0..1usize.saturating_add(dice.below(10)) {
@@ -54,7 +57,7 @@ pub fn thrown_list<V: Thrown>(heap: Global, dice: &mut Dice) -> Result<Vec<Pair<
     Ok(pairs)
 }
 
-fn thrown_key(heap: Global, dice: &mut Dice, letters: usize) -> Result<Vec<u8>, Fault> {
+fn thrown_key(heap: Global, dice: &mut ListDice, letters: usize) -> Result<Vec<u8>, Fault> {
     let mut key = Vec::new(heap);
     let length = if dice.below(60) == 0 {
         62usize.saturating_add(dice.below(5))
@@ -75,7 +78,7 @@ fn letter(number: usize) -> u8 {
     }
 }
 
-fn thrown_output<V: Thrown>(heap: Global, dice: &mut Dice) -> Result<V, Fault> {
+fn thrown_output<V: Thrown>(heap: Global, dice: &mut ListDice) -> Result<V, Fault> {
     let spellings = V::spellings();
     let spelling = spellings
         .get(dice.below(spellings.len()))
@@ -84,16 +87,17 @@ fn thrown_output<V: Thrown>(heap: Global, dice: &mut Dice) -> Result<V, Fault> {
 }
 
 /// Room for every list, or now and then for few states or arcs.
-pub fn thrown_room(dice: &mut Dice) -> Room {
-    let states = if dice.below(3) == 0 {
+pub fn thrown_room(dice: &mut ListDice) -> Room {
+    Room {
+        states: thrown_count(dice),
+        arcs: thrown_count(dice),
+    }
+}
+
+fn thrown_count(dice: &mut ListDice) -> usize {
+    if dice.below(3) == 0 {
         dice.below(12)
     } else {
         400
-    };
-    let arcs = if dice.below(3) == 0 {
-        dice.below(12)
-    } else {
-        400
-    };
-    Room { states, arcs }
+    }
 }

@@ -1,13 +1,15 @@
 //! A trial: a list given to a builder in some memory, and held to what the definitions say.
 use crate::agreeing::{agrees, rows_of};
-use crate::building::{Line, arc_memory, build, lines_of, state_memory};
+use crate::building::{Built, build, number_of};
+use adding::refusal::AddRefusal;
 use builder::Sealed;
-use naive::adding::{Expected, Room, answers_to};
+use lending::Lent;
+use naive::adding::{Reason, Room, answers_to};
 use output_trials::twin::Twin;
 use reference::compiling::compile;
 use reference::fault::Fault;
-use reference::machine::Pair;
 use reference::numbers::Numbers;
+use sheets::Pair;
 use std::alloc::Global;
 
 /// What came of trials.
@@ -15,7 +17,7 @@ use std::alloc::Global;
 pub struct Score {
     /// How many lists were tried.
     pub lists: usize,
-    /// How often an add gave each number, 0 if it took the pair.
+    /// How often an add took its pair, or refused it with each number.
     pub answers: Numbers,
     /// How many sealed dictionaries were compared.
     pub machines: usize,
@@ -46,25 +48,17 @@ pub fn try_list<V: Twin>(
     pairs: &[Pair<V>],
     room: Room,
     score: &mut Score,
-) -> Result<Vec<u8>, Fault> {
+) -> Result<Vec<Result<(), AddRefusal>>, Fault> {
     let expected = answers_to(heap, pairs, room)?;
-    let mut lines = lines_of(heap, pairs)?;
-    let mut states = state_memory::<V::Proved>(heap, room.states)?;
-    let mut arcs = arc_memory::<V::Proved>(heap, room.arcs)?;
-    let mut slots = vec![in heap; 7u16; room.states]?;
-    let sealed = build(
-        lines.as_mut_slice(),
-        states.as_mut_slice(),
-        arcs.as_mut_slice(),
-        slots.as_mut_slice(),
-    );
-    let verdict = is_expected(heap, expected.taken.as_slice(), &sealed);
+    let mut lent = Lent::new(heap, room.states, room.arcs, room.states)?;
+    let Built { answers, sealed } = build(heap, pairs, &mut lent)?;
     score.lists = score.lists.saturating_add(1);
-    if let Some(agrees) = verdict? {
+    if let Some(agrees) = is_expected(heap, expected.taken.as_slice(), &sealed)? {
         score.machines = score.machines.saturating_add(1);
         score.judge(agrees);
     }
-    hold_answers(heap, lines.as_slice(), &expected, score)
+    hold_answers(answers.as_slice(), expected.answers.as_slice(), score);
+    Ok(answers)
 }
 
 /// Whether a sealed dictionary is the machine of the pairs taken; nothing where none was taken.
@@ -82,18 +76,15 @@ fn is_expected<'a, V: Twin>(
     Ok(Some(counted && agrees(&machine, &rows_of(sealed))))
 }
 
-/// Counts the answers and those that are other than expected, and gives them.
-fn hold_answers<V: Twin>(
-    heap: Global,
-    lines: &[Line<V::Proved>],
-    expected: &Expected<V>,
+/// Counts the answers and those that are other than expected.
+fn hold_answers(
+    answers: &[Result<(), AddRefusal>],
+    expected: &[Result<(), Reason>],
     score: &mut Score,
-) -> Result<Vec<u8>, Fault> {
-    let mut answers = Vec::new(heap);
-    for (line, answer) in lines.iter().zip(expected.answers.iter()) {
-        score.answers.note(line.answer);
-        score.judge(line.answer == *answer);
-        answers.push(line.answer)?;
+) {
+    for (answer, expected) in answers.iter().zip(expected) {
+        let number = number_of(answer);
+        score.answers.note(number);
+        score.judge(number == expected.as_ref().err().map(|reason| reason.number()));
     }
-    Ok(answers)
 }

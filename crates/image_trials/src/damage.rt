@@ -1,5 +1,6 @@
 //! Damaged images: `load` beside the plain reading.
-use crate::report::{is_clear, report_on};
+use crate::report::{agree, answer_on, is_clear};
+use loading::LoadRefusal;
 use naive::reading::take;
 use naive::stop::{Report, Stop};
 use output_trials::twin::Twin;
@@ -16,7 +17,7 @@ const WORKING: usize = 80;
 pub struct Readings {
     /// How many were read.
     pub images: usize,
-    /// How often each refusal came, 0 for an image that was taken.
+    /// How often an image was taken, or refused with each number.
     pub numbers: Numbers,
     /// How many answers of load are other than the plain reading's.
     pub differ: usize,
@@ -31,41 +32,42 @@ impl Readings {
         }
     }
 
-    fn note(&mut self, number: u8, agrees: bool) {
+    fn note(&mut self, answer: Result<(), LoadRefusal>, agrees: bool) {
         self.images = self.images.saturating_add(1);
         if !agrees {
             self.differ = self.differ.saturating_add(1);
         }
-        self.numbers.note(number);
+        self.numbers.note(number_of(answer));
     }
 }
 
-/// Reads the first bytes of an image, by load and plainly, and gives the number of load's refusal, 0 if it takes the image.
+/// The number of a refusal, if an answer is one.
+pub fn number_of(answer: Result<(), LoadRefusal>) -> Option<u8> {
+    answer.err().map(|refusal| refusal.number())
+}
+
+/// Reads the first bytes of an image, by load and plainly, and gives what load answers.
 pub fn read_both<V: Twin>(
     heap: Global,
     bytes: &mut [u8],
     used: usize,
     readings: &mut Readings,
-) -> Result<u8, Fault> {
+) -> Result<Result<(), LoadRefusal>, Fault> {
     let used = used.min(bytes.len());
-    let expected = plain_report(heap, V::kind_number(), &bytes[0..used])?;
+    let plain = read_plainly::<V>(heap, &bytes[..used])?;
     let mut working = [0xEEu8; WORKING];
     let store = ByteStore::new(bytes, used);
-    let report = report_on::<V::Proved, ByteStore>(&store, &mut working);
-    let number = match report {
-        Some(report) => report.number,
-        None => 0,
-    };
-    readings.note(number, report == expected && is_clear(&working));
-    Ok(number)
+    let answer = answer_on::<V::Proved, ByteStore>(&store, &mut working);
+    readings.note(answer, agree(answer, plain) && is_clear(&working));
+    Ok(answer)
 }
 
-/// Why the plain reading refuses an image; nothing if it takes it.
-fn plain_report(heap: Global, kind: u8, bytes: &[u8]) -> Result<Option<Report>, Fault> {
-    match take(heap, kind, bytes, WORKING) {
-        Ok(()) => Ok(None),
-        Err(Stop::Refused(report)) => Ok(Some(report)),
-        Err(Stop::Memory) => Err(Fault::Memory),
+/// What the plain reading answers on an image.
+fn read_plainly<V: Twin>(heap: Global, bytes: &[u8]) -> Result<Result<(), Report>, Fault> {
+    match take(heap, V::KIND, bytes, WORKING) {
+        Ok(()) => Ok(Ok(())),
+        Err(Stop::Refused(report)) => Ok(Err(report)),
+        Err(Stop::Memory(error)) => Err(Fault::Memory(error)),
     }
 }
 
@@ -89,8 +91,7 @@ pub fn read_damaged<V: Twin>(
 
 /// Turns the bit at a place.
 pub fn turn_bit(bytes: &mut [u8], place: usize) {
-    let byte = place / 8;
-    if byte < bytes.len() {
-        bytes[byte] ^= 128 >> (place % 8);
+    if let Some(byte) = bytes.get_mut(place / 8) {
+        *byte ^= 128 >> (place % 8);
     }
 }

@@ -1,18 +1,19 @@
 //! Machines made up for load: some are not minimal, and most hold what no builder makes.
+use naive::stop::Reason;
 use output_trials::twin::Twin;
 use reference::fault::Fault;
 use reference::machine::{Arc, Machine, State};
 use reference::values::Value;
 use std::alloc::Global;
 
-/// A machine of numbers, with the refusal that it is to get, 0 if it is to be taken.
+/// A machine of numbers, with the answer that load is to give.
 #[derive(Clone, Copy)]
 pub struct MadeUp {
     /// How many keys it claims.
     pub keys: usize,
     /// The states by number with a bar between them: the keys that it claims, `=` and the end output if there is one, and each arc as `byte>target/output`.
     pub states: &'static str,
-    pub number: u8,
+    pub answer: Result<(), Reason>,
 }
 
 pub static MADE_UP: [MadeUp; 11] = [
@@ -20,77 +21,76 @@ pub static MADE_UP: [MadeUp; 11] = [
     MadeUp {
         keys: 2,
         states: "1 =0 | 1 =0 | 2 a>0/1 b>1/2",
-        number: 0,
+        answer: Ok(()),
     },
     // Outputs that are not moved forward.
     MadeUp {
         keys: 1,
         states: "1 =7 | 1 a>0/0",
-        number: 0,
+        answer: Ok(()),
     },
     // A join that is no storable number.
     MadeUp {
         keys: 1,
         states: "1 =4294967295 | 1 a>0/4294967295",
-        number: 0,
+        answer: Ok(()),
     },
     // Neither an end nor an arc.
     MadeUp {
         keys: 1,
         states: "1",
-        number: 23,
+        answer: Err(Reason::Record),
     },
     // Arcs that do not ascend, and two arcs on one byte.
     MadeUp {
         keys: 2,
         states: "1 =0 | 2 b>0/0 a>0/0",
-        number: 23,
+        answer: Err(Reason::Record),
     },
     MadeUp {
         keys: 2,
         states: "1 =0 | 2 a>0/0 a>0/0",
-        number: 23,
+        answer: Err(Reason::Record),
     },
     // A circle, and a target that is not there.
     MadeUp {
         keys: 1,
         states: "1 =0 | 1 a>1/0",
-        number: 23,
+        answer: Err(Reason::Record),
     },
     MadeUp {
         keys: 1,
         states: "1 =0 | 1 a>9/0",
-        number: 23,
+        answer: Err(Reason::Record),
     },
     // Key counts that are not the sum: of a state, and of the image.
     MadeUp {
         keys: 2,
         states: "1 =0 | 2 a>0/0",
-        number: 24,
+        answer: Err(Reason::Sum),
     },
     MadeUp {
         keys: 2,
         states: "1 =0 | 1 a>0/0",
-        number: 24,
+        answer: Err(Reason::Sum),
     },
     // A state that no arc leads to.
     MadeUp {
         keys: 1,
         states: "1 =0 | 1 b>0/0 | 1 a>0/0",
-        number: 25,
+        answer: Err(Reason::Unreached),
     },
 ];
 
 /// The machine that a text spells.
 pub fn read_machine<V: Twin>(heap: Global, keys: usize, text: &str) -> Result<Machine<V>, Fault> {
-    let mut states = Vec::new(heap);
-    for part in text.split('|') {
-        states.push(read_state(heap, part)?)?;
-    }
     Ok(Machine {
         keys,
         start: V::read(heap, "0")?,
-        states,
+        states: text
+            .split('|')
+            .map(|part| read_state(heap, part))
+            .try_collect(heap)?,
     })
 }
 
@@ -104,37 +104,28 @@ fn read_state<V: Value>(heap: Global, text: &str) -> Result<State<V>, Fault> {
         } else if let Some((byte, target)) = word.split_once('>') {
             arcs.push(read_arc(heap, byte, target)?)?;
         } else {
-            keys = number_of(word)?;
+            keys = word.parse()?;
         }
     }
     Ok(State { keys, end, arcs })
 }
 
 fn read_arc<V: Value>(heap: Global, byte: &str, text: &str) -> Result<Arc<V>, Fault> {
-    let Some((target, output)) = text.split_once('/') else {
-        return Err(Fault::Unreadable);
-    };
-    let byte = *byte.as_bytes().first().ok_or(Fault::Unreadable)?;
+    let (target, output) = text.split_once('/').ok_or(Fault::Unreadable)?;
     Ok(Arc {
-        byte,
-        target: number_of(target)?,
+        byte: *byte.as_bytes().first().ok_or(Fault::Unreadable)?,
+        target: target.parse()?,
         output: V::read(heap, output)?,
     })
 }
 
-fn number_of(word: &str) -> Result<usize, Fault> {
-    match word.parse::<usize>() {
-        Ok(number) => Ok(number),
-        Err(_) => Err(Fault::Unreadable),
-    }
-}
-
 /// The machine of one key of so many bytes.
 pub fn chain<V: Twin>(heap: Global, length: usize) -> Result<Machine<V>, Fault> {
+    let nothing: V = V::read(heap, "0")?;
     let mut states = Vec::new(heap);
     states.push(State {
         keys: 1,
-        end: Some(V::read(heap, "0")?),
+        end: Some(nothing.clone()?),
         arcs: Vec::new(heap),
     })?;
     for target in 0..length {
@@ -142,7 +133,7 @@ pub fn chain<V: Twin>(heap: Global, length: usize) -> Result<Machine<V>, Fault> 
         arcs.push(Arc {
             byte: b'a',
             target,
-            output: V::read(heap, "0")?,
+            output: nothing.clone()?,
         })?;
         states.push(State {
             keys: 1,
@@ -152,7 +143,7 @@ pub fn chain<V: Twin>(heap: Global, length: usize) -> Result<Machine<V>, Fault> 
     }
     Ok(Machine {
         keys: 1,
-        start: V::read(heap, "0")?,
+        start: nothing,
         states,
     })
 }

@@ -1,48 +1,44 @@
-//! What `load` answers, in the words of the plain reading.
-use fields::Cut;
+//! What `load` answers, beside the plain reading.
 use loading::{LoadRefusal, load};
-use naive::stop::Report;
+use naive::stop::{Reason, Report};
 use outputs::output::Output;
 use stores::{Refusal, Store};
 
-/// Why `load` refuses the image at a store's first byte; nothing if it takes it.
-pub fn report_on<O: Output, S: Store>(store: &S, working: &mut [u8]) -> Option<Report> {
-    match load::<O, &S>(store, working) {
-        Ok(_loaded) => None,
-        Err(refusal) => Some(Report {
-            number: refusal.number(),
-            place: refusal.place(),
-            missing: missing_byte(refusal),
-        }),
+/// What `load` answers on the image at a store's first byte.
+pub fn answer_on<O: Output, S: Store>(store: &S, working: &mut [u8]) -> Result<(), LoadRefusal> {
+    let _loaded = load::<O, &S>(store, working)?;
+    Ok(())
+}
+
+/// Whether load and the plain reading answer alike.
+pub fn agree(answer: Result<(), LoadRefusal>, plain: Result<(), Report>) -> bool {
+    match (answer, plain) {
+        (Ok(()), Ok(())) => true,
+        (Err(refusal), Err(report)) => {
+            refusal.place() == report.place && same_reason(refusal, report.reason)
+        }
+        _ => false,
     }
 }
 
-fn missing_byte(refusal: LoadRefusal) -> usize {
-    let LoadRefusal::Cut(cut) = refusal else {
-        return 0;
-    };
-    let Cut { place: _, refusal } = cut;
-    match refusal {
-        Refusal::Missing(byte) => byte,
-        _ => 0,
+/// Whether two refusals have one number, and name one missing byte.
+fn same_reason(refusal: LoadRefusal, reason: Reason) -> bool {
+    match (refusal, reason) {
+        (LoadRefusal::Cut(cut), Reason::Cut(byte)) => cut.refusal == Refusal::Missing(byte),
+        _ => refusal.number() == reason.number(),
     }
 }
 
-/// Whether load reports this, and leaves zeros in the working bytes.
-pub fn reports<O: Output, S: Store>(
+/// Whether load answers this, and leaves zeros in the working bytes.
+pub fn answers<O: Output, S: Store>(
     store: &S,
     working: &mut [u8],
-    expected: Option<Report>,
+    expected: Result<(), LoadRefusal>,
 ) -> bool {
-    report_on::<O, S>(store, working) == expected && is_clear(working)
+    answer_on::<O, S>(store, working) == expected && is_clear(working)
 }
 
 /// Whether all working bytes are zero.
 pub fn is_clear(working: &[u8]) -> bool {
-    for byte in working {
-        if *byte != 0 {
-            return false;
-        }
-    }
-    true
+    working.iter().all(|byte| *byte == 0)
 }

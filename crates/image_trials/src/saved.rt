@@ -1,7 +1,7 @@
 //! A sealed dictionary saved on a store, held to its image, and loaded back from there.
-use crate::report::reports;
+use crate::report::answers;
 use builder::Sealed;
-use naive::stop::Report;
+use loading::LoadRefusal;
 use outputs::output::Output;
 use reference::fault::Fault;
 use saving::{SaveRefusal, Saved, save_sealed};
@@ -12,6 +12,8 @@ use stores::{ByteStore, Store, Tail, WordStore};
 const OTHER: u8 = 0xA5;
 /// The bytes of the memory of a store.
 pub const MEMORY: usize = 16384;
+/// The bit place of the number of states in an image.
+const STATES_PLACE: usize = 24;
 
 /// Whether an image is saved well behind so many bytes, on bytes and on words.
 pub fn saves_behind<'a, O: Output>(
@@ -51,22 +53,15 @@ fn is_at(saved: Saved, place: usize, length: usize) -> bool {
 
 /// Whether a store's first bytes are as they were.
 fn is_other<S: Store>(store: &S, count: usize) -> bool {
-    for i in 0..count {
-        if store.at(i) != Ok(OTHER) {
-            return false;
-        }
-    }
-    true
+    (0..count).all(|i| store.at(i) == Ok(OTHER))
 }
 
 /// Whether a store has these bytes at a place.
 fn holds<S: Store>(store: &S, place: usize, bytes: &[u8]) -> bool {
-    for (i, byte) in bytes.iter().enumerate() {
-        if store.at(place.saturating_add(i)) != Ok(*byte) {
-            return false;
-        }
-    }
-    true
+    bytes
+        .iter()
+        .enumerate()
+        .all(|(i, byte)| store.at(place.saturating_add(i)) == Ok(*byte))
 }
 
 /// Whether load takes the image at a place with a working byte for each state, and refuses it with one less.
@@ -79,13 +74,9 @@ fn loads_back<O: Output, S: Store>(
     let tail = Tail::new(store, place);
     let mut working = vec![in heap; 0xEEu8; states]?;
     let mut fewer = vec![in heap; 0xEEu8; states.saturating_sub(1)]?;
-    let short = Some(Report {
-        number: 20,
-        place: 24,
-        missing: 0,
-    });
-    let taken = reports::<O, Tail<&S>>(&tail, working.as_mut_slice(), None);
-    let refused = reports::<O, Tail<&S>>(&tail, fewer.as_mut_slice(), short);
+    let short = Err(LoadRefusal::Working(STATES_PLACE));
+    let taken = answers::<O, Tail<&S>>(&tail, working.as_mut_slice(), Ok(()));
+    let refused = answers::<O, Tail<&S>>(&tail, fewer.as_mut_slice(), short);
     Ok(taken && refused)
 }
 
@@ -105,13 +96,5 @@ pub fn refuses_short<'a, O: Output>(sealed: &Sealed<'a, O>, length: usize) -> bo
 /// Whether save refuses with 15, and leaves the count of the store.
 fn refuses<'a, O: Output, S: Store>(sealed: &Sealed<'a, O>, store: &mut S) -> bool {
     let used = store.count();
-    save_number(save_sealed(sealed, store)) == 15 && store.count() == used
-}
-
-/// The number of save's answer, 0 if the image was saved.
-pub fn save_number(answer: Result<Saved, SaveRefusal>) -> u8 {
-    match answer {
-        Ok(_) => 0,
-        Err(refusal) => refusal.number(),
-    }
+    save_sealed(sealed, store).err() == Some(SaveRefusal::NoRoom) && store.count() == used
 }

@@ -1,9 +1,32 @@
 //! What a builder holds after some pairs, and what it has to answer to a pair, straight from the definitions.
 use reference::compiling::compile;
 use reference::fault::Fault;
-use reference::machine::{Machine, Pair};
+use reference::machine::{Machine, State};
 use reference::values::Value;
+use sheets::Pair;
 use std::alloc::Global;
+use std::collections::BTreeSet;
+
+/// Why a pair is not taken. The reasons are told apart anew: those of the builder are what this crate judges.
+#[derive(Clone, Copy, PartialEq, Eq, Debug)]
+pub enum Reason {
+    LongKey,
+    OutOfOrder,
+    FewStates,
+    FewArcs,
+}
+
+impl Reason {
+    /// The number by which the refusal is reported.
+    pub fn number(&self) -> u8 {
+        match self {
+            Reason::LongKey => 5,
+            Reason::OutOfOrder => 6,
+            Reason::FewStates => 8,
+            Reason::FewArcs => 9,
+        }
+    }
+}
 
 /// How many states and arcs: of a memory, or held in one.
 #[derive(Clone, Copy)]
@@ -12,10 +35,40 @@ pub struct Room {
     pub arcs: usize,
 }
 
-/// The answers to pairs in turn, 0 for a pair that is taken, and the pairs that are taken.
+impl Room {
+    /// Room that suffices for both.
+    fn or(self, other: Room) -> Room {
+        Room {
+            states: self.states.max(other.states),
+            arcs: self.arcs.max(other.arcs),
+        }
+    }
+
+    /// Room for one state more, with its arcs.
+    fn with<V>(self, state: &State<V>) -> Room {
+        Room {
+            states: self.states.saturating_add(1),
+            arcs: self.arcs.saturating_add(state.arcs.len()),
+        }
+    }
+
+    /// Whether a memory has as much as is asked.
+    fn suffices(self, asked: Room) -> Result<(), Reason> {
+        let usable = self.states > 0 && self.arcs > 0;
+        if !usable || asked.states > self.states {
+            return Err(Reason::FewStates);
+        }
+        if asked.arcs > self.arcs {
+            return Err(Reason::FewArcs);
+        }
+        Ok(())
+    }
+}
+
+/// The answers to pairs in turn, and the pairs that are taken.
 #[derive(Drop)]
 pub struct Expected<V> {
-    pub answers: Vec<u8>,
+    pub answers: Vec<Result<(), Reason>>,
     pub taken: Vec<Pair<V>>,
 }
 
@@ -29,10 +82,10 @@ pub fn answers_to<V: Value>(
     let mut taken: Vec<Pair<V>> = Vec::new(heap);
     for pair in pairs {
         let answer = answer_after(heap, taken.as_slice(), pair.key.as_slice(), room)?;
-        answers.push(answer)?;
-        if answer == 0 {
-            taken.push(copy_of(heap, pair)?)?;
+        if answer.is_ok() {
+            taken.push(pair.clone()?)?;
         }
+        answers.push(answer)?;
     }
     Ok(Expected { answers, taken })
 }
@@ -42,21 +95,10 @@ pub fn least_room<V: Value>(heap: Global, pairs: &[Pair<V>]) -> Result<Room, Fau
     let mut room = Room { states: 1, arcs: 1 };
     let mut taken: Vec<Pair<V>> = Vec::new(heap);
     for pair in pairs {
-        let asked = asked_by(heap, taken.as_slice(), pair.key.as_slice())?;
-        room = Room {
-            states: room.states.max(asked.states),
-            arcs: room.arcs.max(asked.arcs),
-        };
-        taken.push(copy_of(heap, pair)?)?;
+        room = room.or(asked_by(heap, taken.as_slice(), pair.key.as_slice())?);
+        taken.push(pair.clone()?)?;
     }
     Ok(room)
-}
-
-fn copy_of<V: Value>(heap: Global, pair: &Pair<V>) -> Result<Pair<V>, Fault> {
-    Ok(Pair {
-        key: pair.key.to_vec(heap)?,
-        output: pair.output.copy(heap)?,
-    })
 }
 
 /// The answer to a key after the pairs that were taken. No list is long enough for refusal 7.
@@ -65,21 +107,22 @@ fn answer_after<V: Value>(
     taken: &[Pair<V>],
     key: &[u8],
     room: Room,
-) -> Result<u8, Fault> {
+) -> Result<Result<(), Reason>, Fault> {
+    if let Err(reason) = test_key(taken, key) {
+        return Ok(Err(reason));
+    }
+    Ok(room.suffices(asked_by(heap, taken, key)?))
+}
+
+/// Whether a key may follow the pairs that were taken.
+fn test_key<V>(taken: &[Pair<V>], key: &[u8]) -> Result<(), Reason> {
     if key.len() > 64 {
-        return Ok(5);
+        return Err(Reason::LongKey);
     }
-    if let Some(newest) = taken.last() {
-        if key <= newest.key.as_slice() {
-            return Ok(6);
-        }
+    if taken.last().is_some_and(|newest| key <= newest.key.as_slice()) {
+        return Err(Reason::OutOfOrder);
     }
-    let asked = asked_by(heap, taken, key)?;
-    let usable = room.states > 0 && room.arcs > 0;
-    if !usable || asked.states > room.states {
-        return Ok(8);
-    }
-    Ok(if asked.arcs > room.arcs { 9 } else { 0 })
+    Ok(())
 }
 
 /// What is held after some pairs, and the growth of a key besides.
@@ -102,14 +145,8 @@ fn asked_by<V: Value>(heap: Global, taken: &[Pair<V>], key: &[u8]) -> Result<Roo
 
 /// The length of a key less that of its common prefix with the newest.
 fn growth_of(key: &[u8], newest: &[u8]) -> usize {
-    let mut shared: usize = 0;
-    for (byte, other) in key.iter().zip(newest.iter()) {
-        if *byte != *other {
-            break;
-        }
-        shared = shared.saturating_add(1);
-    }
-    key.len().saturating_sub(shared)
+    let shared = key.iter().zip(newest).take_while(|(byte, other)| byte == other);
+    key.len().saturating_sub(shared.count())
 }
 
 /// The classes of the closed prefixes and one for each open prefix, with the arcs of all of them.
@@ -121,24 +158,15 @@ fn held_in<V: Value>(
 ) -> Result<Room, Fault> {
     let closed = closed_classes(heap, machine, taken, newest)?;
     let mut room = Room { states: 0, arcs: 0 };
-    for (number, state) in machine.states.iter().enumerate() {
-        if closed.contains(&number) {
-            room = with_state(room, state.arcs.len());
-        }
+    for state in closed.iter().filter_map(|class| machine.states.get(*class)) {
+        room = room.with(state);
     }
     for length in 0..=newest.len() {
-        if let Some(state) = machine.state_after(&newest[0..length]) {
-            room = with_state(room, state.arcs.len());
+        if let Some(state) = machine.state_after(&newest[..length]) {
+            room = room.with(state);
         }
     }
     Ok(room)
-}
-
-fn with_state(room: Room, arcs: usize) -> Room {
-    Room {
-        states: room.states.saturating_add(1),
-        arcs: room.arcs.saturating_add(arcs),
-    }
 }
 
 /// The states that the prefixes of keys lead to which are no prefixes of the newest key.
@@ -147,14 +175,15 @@ fn closed_classes<V: Value>(
     machine: &Machine<V>,
     taken: &[Pair<V>],
     newest: &[u8],
-) -> Result<Vec<usize>, Fault> {
-    let mut classes = Vec::new(heap);
+) -> Result<BTreeSet<usize>, Fault> {
+    let mut classes = BTreeSet::new(heap);
     for pair in taken {
         let key = pair.key.as_slice();
         for length in 0..=key.len() {
-            let prefix = &key[0..length];
+            let prefix = &key[..length];
             if !newest.starts_with(prefix) {
-                classes.push(machine.number_after(prefix).ok_or(Fault::Unreadable)?)?;
+                let class = machine.number_after(prefix).ok_or(Fault::Unreadable)?;
+                let _ = classes.insert(class)?;
             }
         }
     }

@@ -1,7 +1,9 @@
 //! An image read field by field, with every test in its turn.
 use crate::row::Row;
-use crate::stop::{Stop, refused};
+use crate::stop::{Reason, Stop};
+use reference::values::Kind;
 use std::alloc::Global;
+use std::collections::BTreeSet;
 
 /// What the head says, and where.
 #[derive(Clone, Copy)]
@@ -20,62 +22,69 @@ const ARCS_PLACE: usize = 40;
 /// The place of the number of keys.
 const KEYS_PLACE: usize = 57;
 
+/// The strings that are accepted from a state: how many, and how long the longest is.
+#[derive(Clone, Copy)]
+struct Strings {
+    keys: usize,
+    longest: usize,
+}
+
 /// What is known of a state whose record is read.
 #[derive(Clone, Copy)]
 struct Known {
     /// Where its record begins.
     place: usize,
-    /// How many keys are accepted from it.
-    keys: usize,
-    /// The length of the longest string that is accepted from it.
-    longest: usize,
+    accepted: Strings,
 }
 
 /// What is known of an image whose records are being read.
 #[derive(Drop)]
 struct Found {
     states: Vec<Known>,
-    /// The targets of all arcs.
-    targets: Vec<usize>,
+    /// How many arcs were read.
+    arcs: usize,
+    /// The states that they lead to.
+    targets: BTreeSet<usize>,
 }
 
 /// Takes an image of a kind, for so many working bytes, or says why not.
-pub fn take(heap: Global, kind: u8, bytes: &[u8], working: usize) -> Result<(), Stop> {
-    let mut row = Row::new(heap, bytes)?;
-    let head = take_head(&mut row, kind, working)?;
+pub fn take(heap: Global, kind: Kind, bytes: &[u8], working: usize) -> Result<(), Stop> {
+    let mut row = Row::new(heap, kind, bytes)?;
+    let head = take_head(&mut row, working)?;
     for _ in 0..head.states {
         let _ = row.field(32)?;
     }
     let mut found = Found {
         states: Vec::new(heap),
-        targets: Vec::new(heap),
+        arcs: 0,
+        targets: BTreeSet::new(heap),
     };
     for state in 0..head.states {
-        take_record(&mut row, kind, head.index, state, &mut found)?;
+        take_record(&mut row, head.index, state, &mut found)?;
     }
     test_ending(&mut row, head, &found)
 }
 
-fn take_head(row: &mut Row, kind: u8, working: usize) -> Result<Head, Stop> {
+fn take_head(row: &mut Row, working: usize) -> Result<Head, Stop> {
     if row.field(16)? != 0x5444 {
-        return Err(refused(17, 0));
+        return Err(Reason::Mark.at(0));
     }
-    if row.field(8)? != usize::from(kind) {
-        return Err(refused(18, 16));
+    if row.field(8)? != row.kind as usize {
+        return Err(Reason::OtherKind.at(16));
     }
     let states = row.field(16)?;
     let arcs = row.field(17)?;
     let keys = row.field(20)?;
     if states == 0 {
-        return Err(refused(19, STATES_PLACE));
+        return Err(Reason::Nothing.at(STATES_PLACE));
     }
     if keys == 0 {
-        return Err(refused(19, KEYS_PLACE));
+        return Err(Reason::Nothing.at(KEYS_PLACE));
     }
     if working < states {
-        return Err(refused(20, STATES_PLACE));
+        return Err(Reason::Working.at(STATES_PLACE));
     }
-    row.pass_code(kind)?;
+    row.pass_code()?;
     Ok(Head {
         states,
         arcs,
@@ -84,105 +93,97 @@ fn take_head(row: &mut Row, kind: u8, working: usize) -> Result<Head, Stop> {
     })
 }
 
-fn take_record(
-    row: &mut Row,
-    kind: u8,
-    index: usize,
-    state: usize,
-    found: &mut Found,
-) -> Result<(), Stop> {
+fn take_record(row: &mut Row, index: usize, state: usize, found: &mut Found) -> Result<(), Stop> {
     let entry = index.saturating_add(state.saturating_mul(32));
     let place = row.place;
     if row.number_at(entry, 32) != place {
-        return Err(refused(22, entry));
+        return Err(Reason::Index.at(entry));
     }
-    let flag = row.field(1)?;
+    let ends = row.field(1)? == 1;
     let count_place = row.place;
     let arcs = row.field(9)?;
-    if arcs > 256 || (arcs == 0 && flag == 0) {
-        return Err(refused(23, count_place));
+    if arcs > 256 || (arcs == 0 && !ends) {
+        return Err(Reason::Record.at(count_place));
     }
     let keys_place = row.place;
     let keys = row.field(20)?;
-    if flag == 1 {
-        row.pass_code(kind)?;
+    if ends {
+        row.pass_code()?;
     }
-    let before = found.targets.len();
-    take_arcs(row, kind, state, arcs, found)?;
-    let (sum, longest) = behind_targets(found, before);
-    if keys != flag.saturating_add(sum) {
-        return Err(refused(24, keys_place));
+    let Strings { keys: sum, longest } = take_arcs(row, state, arcs, found)?;
+    if keys != sum.saturating_add(usize::from(ends)) {
+        return Err(Reason::Sum.at(keys_place));
     }
-    found.states.push(Known {
-        place,
-        keys,
-        longest,
-    })?;
+    let accepted = Strings { keys, longest };
+    found.states.push(Known { place, accepted })?;
     Ok(())
 }
 
-/// Reads the arcs of a state, and notes their targets.
+/// Reads the arcs of a state, notes their targets, and gives the strings over them.
 fn take_arcs(
     row: &mut Row,
-    kind: u8,
     state: usize,
     count: usize,
     found: &mut Found,
-) -> Result<(), Stop> {
+) -> Result<Strings, Stop> {
+    let mut over = Strings {
+        keys: 0,
+        longest: 0,
+    };
     let mut least = 0;
     for _ in 0..count {
         let byte_place = row.place;
         let byte = row.field(8)?;
         if byte < least {
-            return Err(refused(23, byte_place));
+            return Err(Reason::Record.at(byte_place));
         }
         least = byte.saturating_add(1);
         let target_place = row.place;
         let target = row.field(16)?;
         if target >= state {
-            return Err(refused(23, target_place));
+            return Err(Reason::Record.at(target_place));
         }
-        row.pass_code(kind)?;
-        found.targets.push(target)?;
+        row.pass_code()?;
+        over = with_arc(over, found.states.get(target));
+        found.arcs = found.arcs.saturating_add(1);
+        let _ = found.targets.insert(target)?;
     }
-    Ok(())
+    Ok(over)
 }
 
-/// The keys behind the targets from one on, and the length of the longest string over them.
-fn behind_targets(found: &Found, from: usize) -> (usize, usize) {
-    let mut keys: usize = 0;
-    let mut longest: usize = 0;
-    for target in found.targets.iter().skip(from) {
-        if let Some(state) = found.states.get(*target) {
-            keys = keys.saturating_add(state.keys);
-            longest = longest.max(state.longest.saturating_add(1));
-        }
+/// The strings over some arcs, and over one more besides.
+fn with_arc(over: Strings, target: Option<&Known>) -> Strings {
+    match target {
+        None => over,
+        Some(Known { accepted, .. }) => Strings {
+            keys: over.keys.saturating_add(accepted.keys),
+            longest: over.longest.max(accepted.longest.saturating_add(1)),
+        },
     }
-    (keys, longest)
 }
 
 /// The tests behind the last record.
 fn test_ending(row: &mut Row, head: Head, found: &Found) -> Result<(), Stop> {
-    let Some(last) = found.states.last() else {
-        return Err(refused(19, STATES_PLACE));
+    let Some((last, others)) = found.states.split_last() else {
+        return Err(Reason::Nothing.at(STATES_PLACE));
     };
-    if head.keys != last.keys {
-        return Err(refused(24, KEYS_PLACE));
+    if head.keys != last.accepted.keys {
+        return Err(Reason::Sum.at(KEYS_PLACE));
     }
-    if head.arcs != found.targets.len() {
-        return Err(refused(24, ARCS_PLACE));
+    if head.arcs != found.arcs {
+        return Err(Reason::Sum.at(ARCS_PLACE));
     }
-    for (number, state) in found.states.iter().enumerate() {
-        if number < found.states.len().saturating_sub(1) && !found.targets.contains(&number) {
-            return Err(refused(25, state.place));
+    for (number, state) in others.iter().enumerate() {
+        if !found.targets.contains(&number) {
+            return Err(Reason::Unreached.at(state.place));
         }
     }
-    if last.longest > 64 {
-        return Err(refused(25, last.place));
+    if last.accepted.longest > 64 {
+        return Err(Reason::Unreached.at(last.place));
     }
     let filling = row.place;
     if row.field((8 - filling % 8) % 8)? != 0 {
-        return Err(refused(26, filling));
+        return Err(Reason::Filling.at(filling));
     }
     Ok(())
 }

@@ -1,26 +1,30 @@
 //! The bits of an image, and how far they are read.
-use crate::stop::{Report, Stop, refused};
+use crate::stop::{Reason, Stop};
+use reference::values::Kind;
 use std::alloc::Global;
 
-/// A row of bits with a place in it.
+/// The bits of an image of a kind, with a place in them.
 #[derive(Drop)]
 pub struct Row {
+    pub kind: Kind,
     bits: Vec<bool>,
     pub place: usize,
 }
 
 impl Row {
     /// The bits of bytes, the most significant of each first.
-    pub fn new(heap: Global, bytes: &[u8]) -> Result<Row, Stop> {
+    pub fn new(heap: Global, kind: Kind, bytes: &[u8]) -> Result<Row, Stop> {
         let mut bits = Vec::new(heap);
         for byte in bytes {
-            let mut rest = *byte;
-            for _ in 0..8 {
-                bits.push(rest >= 128)?;
-                rest = rest.wrapping_mul(2);
+            for weight in [128u8, 64, 32, 16, 8, 4, 2, 1] {
+                bits.push(*byte & weight != 0)?;
             }
         }
-        Ok(Row { bits, place: 0 })
+        Ok(Row {
+            kind,
+            bits,
+            place: 0,
+        })
     }
 
     /// How many bits are left.
@@ -30,50 +34,44 @@ impl Row {
 
     /// The number in `width` bits at a place, as far as there are bits.
     pub fn number_at(&self, place: usize, width: usize) -> usize {
-        let mut number: usize = 0;
-        for bit in self.bits.iter().skip(place).take(width) {
-            number = number.saturating_mul(2).saturating_add(usize::from(*bit));
-        }
-        number
+        let bits = self.bits.iter().skip(place).take(width);
+        bits.fold(0usize, |number, bit| {
+            number.saturating_mul(2).saturating_add(usize::from(*bit))
+        })
     }
 
-    /// A refusal of what begins at a place and runs past the end.
-    fn cut(&self, place: usize) -> Stop {
-        Stop::Refused(Report {
-            number: 16,
-            place,
-            missing: self.bits.len() / 8,
-        })
+    /// Passes so many bits, and gives the place where they begin.
+    fn pass(&mut self, width: usize) -> Result<usize, Stop> {
+        let place = self.place;
+        if self.left() < width {
+            return Err(Reason::Cut(self.bits.len() / 8).at(place));
+        }
+        self.place = place.saturating_add(width);
+        Ok(place)
     }
 
     /// The number in the next field.
     pub fn field(&mut self, width: usize) -> Result<usize, Stop> {
-        if self.left() < width {
-            return Err(self.cut(self.place));
-        }
-        let number = self.number_at(self.place, width);
-        self.place = self.place.saturating_add(width);
-        Ok(number)
+        let place = self.pass(width)?;
+        Ok(self.number_at(place, width))
     }
 
-    /// Passes the code of an output of a kind.
-    pub fn pass_code(&mut self, kind: u8) -> Result<(), Stop> {
-        let width = if kind == 1 { 32 } else { self.text_width()? };
-        if self.left() < width {
-            return Err(self.cut(self.place));
-        }
-        self.place = self.place.saturating_add(width);
+    /// Passes the code of an output.
+    pub fn pass_code(&mut self) -> Result<(), Stop> {
+        let width = match self.kind {
+            Kind::Numbers => 32,
+            Kind::Texts => self.text_width()?,
+        };
+        self.pass(width)?;
         Ok(())
     }
 
     /// The bits of the text's code that begins here. A length that is cut is the least that it can still become.
     fn text_width(&self) -> Result<usize, Stop> {
-        let mut length = self.number_at(self.place, 5);
-        for _ in self.left()..5 {
-            length = length.saturating_mul(2);
-        }
+        let cut = self.number_at(self.place, 5);
+        let length = (self.left()..5).fold(cut, |length, _| length.saturating_mul(2));
         if length > 24 {
-            return Err(refused(21, self.place));
+            return Err(Reason::LongText.at(self.place));
         }
         Ok(length.saturating_mul(8).saturating_add(5))
     }

@@ -5,9 +5,8 @@ use outputs::output::Output;
 use outputs::source::Unread;
 use reference::bits::Bits;
 use reference::fault::Fault;
-use reference::machine::Pair;
 use reference::tally::Tally;
-use reference::values::Value;
+use sheets::Pair;
 use std::alloc::Global;
 
 pub fn compare<V: Twin>(heap: Global, pairs: &[Pair<V>], tally: &mut Tally) -> Result<(), Fault> {
@@ -24,23 +23,20 @@ pub fn compare<V: Twin>(heap: Global, pairs: &[Pair<V>], tally: &mut Tally) -> R
 fn compare_parts<V: Twin>(heap: Global, x: &V, y: &V, tally: &mut Tally) -> Result<(), Fault> {
     let common = x.common(heap, y)?;
     let rest = x.rest(heap, &common)?;
-    let (Some(proved), Some(other)) = (x.proved(), y.proved()) else {
-        return Err(Fault::Unreadable);
-    };
+    let proved = x.proved()?;
+    let other = y.proved()?;
     let shared = proved.common(&other);
     let left = proved.rest(&shared);
     let _ = tally.judge(common.means(&shared));
     let _ = tally.judge(rest.means(&left));
     let _ = tally.judge(shared.joins(&left) && x.means(&shared.join(&left)));
-    let _ = tally.judge(proved.same(&other) == x.same(y));
+    let _ = tally.judge(proved.same(&other) == (x == y));
     Ok(())
 }
 
 // The code of an output, and its reading at each length that it is cut to.
 fn compare_code<V: Twin>(heap: Global, x: &V, tally: &mut Tally) -> Result<(), Fault> {
-    let Some(proved) = x.proved() else {
-        return Err(Fault::Unreadable);
-    };
+    let proved = x.proved()?;
     let mut bits = Bits::new(heap);
     x.write(&mut bits)?;
     let mut sink = Collected {
@@ -50,17 +46,17 @@ fn compare_code<V: Twin>(heap: Global, x: &V, tally: &mut Tally) -> Result<(), F
     let row = sink.bits.as_slice();
     let _ = tally.judge(bits.row() == row);
     for length in 0..=row.len() {
-        let _ = tally.judge(reads_back(x, row, length));
+        let whole = length == row.len();
+        let _ = tally.judge(reads_back(x, &row[..length], whole));
     }
     Ok(())
 }
 
-// Whether a code of which only the first bits are there is read as it should be: whole, or as one that is cut.
-fn reads_back<V: Twin>(x: &V, code: &[bool], length: usize) -> bool {
-    let tape = Tape::new(code, length);
-    match V::Proved::read(&tape, 0) {
-        Ok((proved, place)) => length == code.len() && place == length && x.means(&proved),
-        Err(Unread::Cut(_)) => length < code.len(),
+// Whether the first bits of a code are read as they should be: as the output where they are the whole code, else as a code that is cut.
+fn reads_back<V: Twin>(x: &V, bits: &[bool], whole: bool) -> bool {
+    match V::Proved::read(&Tape::new(bits), 0) {
+        Ok((proved, place)) => whole && place == bits.len() && x.means(&proved),
+        Err(Unread::Cut(())) => !whole,
         Err(Unread::NoCode) => false,
     }
 }

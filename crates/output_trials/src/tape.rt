@@ -1,5 +1,5 @@
 // Bits in memory: what codes are written to, and what they are read from.
-ghost use Rattle.std.specs.Prelude.{◌≡◌, ◌^◌, ◌<◌, ◌≤◌, length, take, refl};
+ghost use Rattle.std.specs.Prelude.{◌≡◌, ◌^◌, ◌<◌, ◌≤◌, length, refl};
 ghost use Rattle.outputs.specs.Bits.{value};
 
 use outputs::sink::BitSink;
@@ -26,45 +26,37 @@ impl BitSink for Collected {
     }
 }
 
-// A code, or a prefix of one: the first `count` of its bits.
+// A code, or a prefix of one.
 #[derive(Clone, Copy)]
-pub struct Tape {
-    bits: [bool; 256],
-    count: usize,
-    ghost fits: { count ≤ 256 },
-    ghost row: { length bits ≡ 256 },
+pub struct Tape<'a> {
+    bits: &'a [bool],
+    ghost few: { length bits.now ≤ 256 },
 }
 
-impl Tape {
-    // The first `count` bits of a row, of at most 256.
-    pub fn new(row: &[bool], count: usize) -> Tape {
-        let mut bits = [false; 256];
-        for (place, bit) in row.iter().take(MOST).enumerate() {
-            bits[place] = *bit;
-        }
+impl<'a> Tape<'a> {
+    // The bits of a row, of which there are at most 256.
+    pub fn new(row: &'a [bool]) -> Tape<'a> {
         Tape {
-            bits,
-            count: count.min(MOST),
+            bits: &row[..row.len().min(MOST)],
         }
     }
 }
 
-impl BitSource for Tape {
-    type Short = usize;
+impl BitSource for Tape<'_> {
+    type Short = ();
 
-    ghost all = { λ s. take s.count s.bits };
+    ghost all = { λ s. s.bits.now };
 
-    ghost lacks = { λ s p. s.count };
+    ghost lacks = { λ s p. tt };
 
     ghost steady = { λ s p q h k. refl };
 
-    fn field(&self, place: usize, width: usize) -> Result<u32, usize> {
+    fn field(&self, place: usize, width: usize) -> Result<u32, ()> {
         let width = 1usize.max(width.min(32));
-        if place > self.count || width > self.count - place {
-            return Err(self.count);
+        if place > self.bits.len() || width > self.bits.len() - place {
+            return Err(());
         }
-        let all = &self.bits[0..self.count];
-        Ok(number_of(&all[place..place + width]))
+        Ok(number_of(&self.bits[place..place + width]))
     }
 }
 

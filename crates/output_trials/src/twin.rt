@@ -4,14 +4,15 @@ ghost use Rattle.std.specs.Prelude.{◌≡◌};
 use outputs::number::Number;
 use outputs::output::Output;
 use outputs::text::Text;
+use reference::fault::Fault;
 use reference::values::{PlainNumber, PlainText, Value};
 
-/// A plain output with its counterpart in the crate `outputs`.
+/// A plain output with its counterpart in the crate `outputs`. Neither type is of this crate, so it is no conversion of std's.
 pub trait Twin: Value {
     type Proved: Output;
 
     /// The counterpart, unless there is none.
-    fn proved(&self) -> Option<Self::Proved>;
+    fn proved(&self) -> Result<Self::Proved, Fault>;
 
     /// Whether both stand for one output.
     fn means(&self, proved: &Self::Proved) -> bool;
@@ -20,8 +21,8 @@ pub trait Twin: Value {
 impl Twin for PlainNumber {
     type Proved = Number;
 
-    fn proved(&self) -> Option<Number> {
-        Some(number(self.0))
+    fn proved(&self) -> Result<Number, Fault> {
+        Ok(number(self.0))
     }
 
     fn means(&self, proved: &Number) -> bool {
@@ -32,8 +33,8 @@ impl Twin for PlainNumber {
 impl Twin for PlainText {
     type Proved = Text;
 
-    fn proved(&self) -> Option<Text> {
-        Text::new(self.bytes.as_slice()).ok()
+    fn proved(&self) -> Result<Text, Fault> {
+        Text::new(self.bytes.as_slice()).map_err(|_| Fault::Unreadable)
     }
 
     fn means(&self, proved: &Text) -> bool {
@@ -41,6 +42,7 @@ impl Twin for PlainText {
     }
 }
 
+// A parameter of its own, since only so a proof knows that the value has 32 bits.
 fn number(value: u32) -> Number
     ensures { result.value ≡ value }
 {

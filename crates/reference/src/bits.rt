@@ -42,19 +42,12 @@ impl Bits {
     }
 
     pub fn append(&mut self, other: &Bits) -> Result<(), Fault> {
-        for bit in other.row.iter() {
-            self.row.push(*bit)?;
-        }
-        Ok(())
+        Ok(self.row.extend_from_slice(other.row())?)
     }
 
     // The bytes, with zero bits filling the last.
     pub fn bytes(&self, heap: Global) -> Result<Vec<u8>, Fault> {
-        let mut bytes = Vec::new(heap);
-        for group in self.row.chunks(8) {
-            bytes.push(packed(group))?;
-        }
-        Ok(bytes)
+        Ok(self.row.chunks(8).map(packed).collect(heap)?)
     }
 }
 
@@ -65,13 +58,8 @@ fn bit_at(value: usize, place: usize) -> bool {
 
 // The byte of up to eight bits, the most significant first.
 fn packed(group: &[bool]) -> u8 {
-    let mut byte = 0;
-    let mut weight: u8 = 128;
-    for bit in group {
-        if *bit {
-            byte |= weight;
-        }
-        weight /= 2;
-    }
-    byte
+    group
+        .iter()
+        .rev()
+        .fold(0, |byte, bit| byte / 2 | if *bit { 128 } else { 0 })
 }

@@ -39,7 +39,7 @@ fn first_record(head: usize, states: usize) -> Result<usize, Fault>
 
 fn put_head<V: Value>(bits: &mut Bits, machine: &Machine<V>) -> Result<(), Fault> {
     bits.put(MARK, 16)?;
-    bits.put(usize::from(V::kind_number()), 8)?;
+    bits.put(V::KIND as usize, 8)?;
     bits.put(machine.states.len(), 16)?;
     bits.put(machine.arc_count(), 17)?;
     bits.put(machine.keys, 20)?;
@@ -62,14 +62,10 @@ fn put_record<V: Value>(bits: &mut Bits, state: &State<V>) -> Result<(), Fault> 
 }
 
 // Two digits for each byte.
-pub fn hexadecimal(heap: Global, bytes: &Vec<u8>) -> Result<String, AllocError> {
-    let mut text = String::new(heap);
-    for (place, byte) in bytes.iter().enumerate() {
-        if place > 0 {
-            text.push(' ')?;
-        }
-        let digits = format!(in heap; "{byte:02X}")?;
-        text.push_str(digits.as_str())?;
-    }
-    Ok(text)
+pub fn hexadecimal(heap: Global, bytes: &[u8]) -> Result<String, AllocError> {
+    let digits: Vec<String> = bytes
+        .iter()
+        .map(|byte| format!(in heap; "{byte:02X}"))
+        .try_collect(heap)?;
+    digits.join(heap, " ")
 }

@@ -7,6 +7,6 @@ pub mod fault;
 pub mod image;
 pub mod machine;
 pub mod numbers;
-pub mod sheets;
+pub mod samples;
 pub mod tally;
 pub mod values;

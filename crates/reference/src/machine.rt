@@ -1,12 +1,5 @@
-// Pairs, and the transducer that answers each key with its output.
+// The transducer that answers each key with its output.
 use std::fmt;
-
-// A key with its output.
-#[derive(Drop)]
-pub struct Pair<V> {
-    pub key: Vec<u8>,
-    pub output: V,
-}
 
 #[derive(Drop)]
 pub struct Arc<V> {
@@ -22,12 +15,11 @@ pub struct Shown(pub u8);
 impl fmt::Display for Shown {
     fn fmt<W: fmt::Write>(&self, f: &mut fmt::Formatter<W>) -> fmt::Result {
         let byte = self.0;
-        match byte {
-            b'!'..=b'~' => {
-                let letter = char::from(byte);
-                write!(f, "{letter}")
-            }
-            _ => write!(f, "{byte:02X}"),
+        if byte.is_ascii_graphic() {
+            let letter = char::from(byte);
+            write!(f, "{letter}")
+        } else {
+            write!(f, "{byte:02X}")
         }
     }
 }
@@ -54,12 +46,7 @@ pub struct State<V> {
 
 impl<V> State<V> {
     pub fn arc(&self, byte: u8) -> Option<&Arc<V>> {
-        for arc in self.arcs.iter() {
-            if arc.byte == byte {
-                return Some(arc);
-            }
-        }
-        None
+        self.arcs.iter().find(|arc| arc.byte == byte)
     }
 }
 
@@ -89,20 +76,17 @@ pub struct Machine<V> {
 
 impl<V> Machine<V> {
     pub fn arc_count(&self) -> usize {
-        let mut count: usize = 0;
-        for state in self.states.iter() {
-            count = count.saturating_add(state.arcs.len());
-        }
-        count
+        self.states.iter().fold(0usize, |count, state| {
+            count.saturating_add(state.arcs.len())
+        })
     }
 
     // The number of the state that a byte string leads to.
     pub fn number_after(&self, string: &[u8]) -> Option<usize> {
-        let mut number = self.states.len().saturating_sub(1);
-        for byte in string {
-            number = self.states.get(number)?.arc(*byte)?.target;
-        }
-        Some(number)
+        let start = self.states.len().saturating_sub(1);
+        string.iter().try_fold(start, |number, byte| {
+            Some(self.states.get(number)?.arc(*byte)?.target)
+        })
     }
 
     // The state that a byte string leads to.

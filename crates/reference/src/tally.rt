@@ -2,11 +2,17 @@
 ghost use Rattle.std.specs.Prelude.{◌≡◌, true, false};
 
 use std::alloc::{AllocError, Global};
+use std::fmt::Display;
 
 #[derive(Clone, Copy)]
 pub struct Tally {
     pub agree: usize,
     pub differ: usize,
+}
+
+// How a comparison came out.
+pub fn verdict(agrees: bool) -> &'static str {
+    if agrees { "agrees" } else { "DIFFERS" }
 }
 
 impl Tally {
@@ -26,31 +32,20 @@ impl Tally {
     {
         if agrees {
             self.agree = self.agree.saturating_add(1);
-            "agrees"
         } else {
             self.differ = self.differ.saturating_add(1);
-            "DIFFERS"
         }
+        verdict(agrees)
     }
 
     // A figure with what is expected, and whether they agree.
-    pub fn number(
+    pub fn figure<T: Display + PartialEq + Drop>(
         &mut self,
         heap: Global,
-        found: usize,
-        expected: usize,
+        found: T,
+        expected: T,
     ) -> Result<String, AllocError> {
         let verdict = self.judge(found == expected);
-        format!(in heap; "{found} ({expected} expected, {verdict})")
-    }
-
-    pub fn text(
-        &mut self,
-        heap: Global,
-        found: &str,
-        expected: &str,
-    ) -> Result<String, AllocError> {
-        let verdict = self.judge(found.as_bytes() == expected.as_bytes());
         format!(in heap; "{found} ({expected} expected, {verdict})")
     }
 }

@@ -9,17 +9,19 @@ use std::fmt;
 // The most bytes of a text.
 const LONGEST_TEXT: usize = 24;
 
+// A kind of outputs, with the number by which an image names it.
+#[derive(Clone, Copy, PartialEq, Eq, Debug)]
+pub enum Kind {
+    Numbers = 1,
+    Texts = 2,
+}
+
 // What the reference asks of an output.
-pub trait Value: Sized + fmt::Display + Drop {
-    // The number by which an image names the kind.
-    fn kind_number() -> u8;
+pub trait Value: Sized + Clone + PartialEq + fmt::Display + Drop {
+    const KIND: Kind;
 
     // The output that a word of a sheet spells.
     fn read(heap: Global, shown: &str) -> Result<Self, Fault>;
-
-    fn copy(&self, heap: Global) -> Result<Self, Fault>;
-
-    fn same(&self, other: &Self) -> bool;
 
     // The greatest common prefix.
     fn common(&self, heap: Global, other: &Self) -> Result<Self, Fault>;
@@ -31,7 +33,7 @@ pub trait Value: Sized + fmt::Display + Drop {
     fn write(&self, bits: &mut Bits) -> Result<(), Fault>;
 }
 
-#[derive(Clone, Copy)]
+#[derive(Clone, Copy, PartialEq)]
 pub struct PlainNumber(pub u32);
 
 impl fmt::Display for PlainNumber {
@@ -42,27 +44,14 @@ impl fmt::Display for PlainNumber {
 }
 
 impl Value for PlainNumber {
-    fn kind_number() -> u8 {
-        1
-    }
+    const KIND: Kind = Kind::Numbers;
 
     fn read(_heap: Global, shown: &str) -> Result<PlainNumber, Fault> {
-        match shown.parse::<u32>() {
-            Ok(value) => Ok(PlainNumber(value)),
-            Err(_) => Err(Fault::Unreadable),
-        }
-    }
-
-    fn copy(&self, _heap: Global) -> Result<PlainNumber, Fault> {
-        Ok(*self)
-    }
-
-    fn same(&self, other: &PlainNumber) -> bool {
-        self.0 == other.0
+        Ok(PlainNumber(shown.parse()?))
     }
 
     fn common(&self, _heap: Global, other: &PlainNumber) -> Result<PlainNumber, Fault> {
-        Ok(if self.0 < other.0 { *self } else { *other })
+        Ok(PlainNumber(self.0.min(other.0)))
     }
 
     fn rest(&self, _heap: Global, prefix: &PlainNumber) -> Result<PlainNumber, Fault> {
@@ -74,9 +63,17 @@ impl Value for PlainNumber {
     }
 }
 
-#[derive(Drop)]
+#[derive(Clone, PartialEq, Drop)]
 pub struct PlainText {
     pub bytes: Vec<u8>,
+}
+
+impl PlainText {
+    fn new(heap: Global, bytes: &[u8]) -> Result<PlainText, Fault> {
+        Ok(PlainText {
+            bytes: bytes.to_vec(heap)?,
+        })
+    }
 }
 
 impl fmt::Display for PlainText {
@@ -91,43 +88,23 @@ impl fmt::Display for PlainText {
 }
 
 impl Value for PlainText {
-    fn kind_number() -> u8 {
-        2
-    }
+    const KIND: Kind = Kind::Texts;
 
     fn read(heap: Global, shown: &str) -> Result<PlainText, Fault> {
         if shown.len() > LONGEST_TEXT {
             return Err(Fault::Unreadable);
         }
-        Ok(PlainText {
-            bytes: shown.as_bytes().to_vec(heap)?,
-        })
-    }
-
-    fn copy(&self, heap: Global) -> Result<PlainText, Fault> {
-        Ok(PlainText {
-            bytes: self.bytes.to_vec(heap)?,
-        })
-    }
-
-    fn same(&self, other: &PlainText) -> bool {
-        self.bytes.as_slice() == other.bytes.as_slice()
+        PlainText::new(heap, shown.as_bytes())
     }
 
     fn common(&self, heap: Global, other: &PlainText) -> Result<PlainText, Fault> {
-        let bytes = self.bytes.as_slice();
-        let shared = shared_length(bytes, other.bytes.as_slice());
-        Ok(PlainText {
-            bytes: bytes[0..shared].to_vec(heap)?,
-        })
+        let shared = shared_length(self.bytes.as_slice(), other.bytes.as_slice());
+        PlainText::new(heap, &self.bytes[..shared])
     }
 
     fn rest(&self, heap: Global, prefix: &PlainText) -> Result<PlainText, Fault> {
-        let bytes = self.bytes.as_slice();
-        let start = prefix.bytes.len().min(bytes.len());
-        Ok(PlainText {
-            bytes: bytes[start..].to_vec(heap)?,
-        })
+        let start = prefix.bytes.len().min(self.bytes.len());
+        PlainText::new(heap, &self.bytes[start..])
     }
 
     fn write(&self, bits: &mut Bits) -> Result<(), Fault> {
@@ -143,10 +120,5 @@ impl Value for PlainText {
 fn shared_length(a: &[u8], b: &[u8]) -> usize
     ensures within { result ≤ length a.now }
 {
-    for length in 0..a.len() {
-        if length >= b.len() || a[length] != b[length] {
-            return length;
-        }
-    }
-    a.len()
+    a.iter().zip(b).take_while(|(x, y)| x == y).count()
 }

@@ -17,12 +17,10 @@ pub fn first(bytes: &[u8], byte: u8) -> usize
     ensures before { (k : ℕ) → k < result → slice_index bytes.now k ≢ byte }
     ensures found { result < length bytes.now → slice_index bytes.now result ≡ byte }
 {
-    for (i, other) in bytes.iter().enumerate() {
-        if *other == byte {
-            return i;
-        }
-    }
-    bytes.len()
+    bytes
+        .iter()
+        .position(|other| *other == byte)
+        .unwrap_or(bytes.len())
 }
 
 /// A line cut at the first byte that equals `byte`, if there is one.

@@ -6,7 +6,7 @@ ghost use Rattle.sheets.specs.Decimals.{is_digit, all_digits, with_digit, with_d
 fn extended(number: u32, byte: u8) -> Option<u32>
     ensures { elim result [ None ↦ (is_digit byte ≡ true → 2 ^ 32 ≤ with_digit number byte) | Some n ↦ (is_digit byte ≡ true) × (n ≡ with_digit number byte) ] }
 {
-    if byte < b'0' || byte > b'9' {
+    if !byte.is_ascii_digit() {
         return None;
     }
     number.checked_mul(10)?.checked_add(u32::from(byte - b'0'))
@@ -17,11 +17,8 @@ fn continued(number: u32, digits: &[u8]) -> Option<u32>
     ensures { elim result [ None ↦ (all_digits digits.now ≡ true → 2 ^ 32 ≤ with_digits number digits.now) | Some n ↦ (all_digits digits.now ≡ true) × (n ≡ with_digits number digits.now) ] }
 {
     let mut so_far = number;
-    for i in 0..digits.len() {
-        let Some(longer) = extended(so_far, digits[i]) else {
-            return None;
-        };
-        so_far = longer;
+    for digit in digits {
+        so_far = extended(so_far, *digit)?;
     }
     Some(so_far)
 }

@@ -3,6 +3,8 @@
 
 mod cutting;
 mod decimals;
+mod pair;
 
 pub use cutting::{Line, cut, first};
 pub use decimals::decimal;
+pub use pair::Pair;

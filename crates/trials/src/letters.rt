@@ -2,7 +2,8 @@
 use adding::refusal::AddRefusal;
 use builder::{Builder, Sealed};
 use builder_trials::agreeing::{answer, rows_of};
-use builder_trials::building::{arc_memory, state_memory};
+use builder_trials::building::number_of;
+use lending::Lent;
 use outputs::number::Number;
 use reference::fault::Fault;
 use reference::tally::Tally;
@@ -10,34 +11,48 @@ use std::alloc::Global;
 
 // The strings up to a length.
 #[derive(Clone, Copy)]
-pub struct Strings {
-    pub longest: usize,
+struct Strings {
+    longest: usize,
     // How many there are.
-    pub count: usize,
-    // What c is answered with behind them, 0 if it is taken.
-    pub again: u8,
+    count: usize,
+    // How c is answered behind them.
+    again: Result<(), AddRefusal>,
 }
 
-// Enough states and arcs for the builder.
+static STRINGS: [Strings; 2] = [
+    Strings {
+        longest: 12,
+        count: 8191,
+        again: Ok(()),
+    },
+    Strings {
+        longest: 19,
+        count: 1048575,
+        again: Err(AddRefusal::TooManyPairs),
+    },
+];
+
+// Enough states, arcs and slots for the builder.
 const ROOM: usize = 100;
 
-pub fn print_strings(rt: &HostRuntime, strings: Strings, tally: &mut Tally) -> anyhow::Result<()> {
+pub fn print_letters(rt: &HostRuntime, tally: &mut Tally) -> anyhow::Result<()> {
+    for strings in STRINGS.iter() {
+        print_strings(rt, strings, tally)?;
+    }
+    Ok(())
+}
+
+fn print_strings(rt: &HostRuntime, strings: &Strings, tally: &mut Tally) -> anyhow::Result<()> {
     let heap = rt.alloc();
-    let mut states = state_memory::<Number>(heap, ROOM)?;
-    let mut arcs = arc_memory::<Number>(heap, ROOM)?;
-    let mut slots = vec![in heap; 0u16; ROOM]?;
-    let mut builder = Builder::new(
-        states.as_mut_slice(),
-        arcs.as_mut_slice(),
-        slots.as_mut_slice(),
-    );
+    let mut lent = Lent::new(heap, ROOM, ROOM, ROOM)?;
+    let mut builder = lent.builder();
     let added = add_strings(heap, strings, &mut builder)?;
-    let again = number_of(builder.add(b"c", Number { value: 0 }));
+    let again = builder.add(b"c", Number { value: 0 });
     let sealed = builder.seal();
     let answered = right_answers(heap, strings, &sealed)?;
     let longest = strings.longest;
-    let taken = tally.number(heap, added, strings.count)?;
-    let right = tally.number(heap, answered, strings.count)?;
+    let taken = tally.figure(heap, added, strings.count)?;
+    let right = tally.figure(heap, answered, strings.count)?;
     println!(rt;
         "all strings over a and b up to {longest} bytes: taken {taken}, answered rightly {right}"
     )?;
@@ -47,32 +62,30 @@ pub fn print_strings(rt: &HostRuntime, strings: Strings, tally: &mut Tally) -> a
 // With c besides, the keys end in one state more than there are lengths only where c is taken.
 fn print_counts<'a>(
     rt: &HostRuntime,
-    strings: Strings,
+    strings: &Strings,
     sealed: &Sealed<'a, Number>,
-    again: u8,
+    again: Result<(), AddRefusal>,
     tally: &mut Tally,
 ) -> anyhow::Result<()> {
     let heap = rt.alloc();
     let counts = sealed.counts();
-    let expected = strings.longest.saturating_add(1);
-    let states = tally.number(heap, counts.states, expected)?;
-    let arcs = tally.number(
-        heap,
-        counts.arcs,
-        strings
-            .longest
-            .saturating_mul(2)
-            .saturating_add(usize::from(again == 0)),
-    )?;
+    let expected_states = strings.longest.saturating_add(1);
+    let expected_arcs = strings
+        .longest
+        .saturating_mul(2)
+        .saturating_add(usize::from(again.is_ok()));
+    let states = tally.figure(heap, counts.states, expected_states)?;
+    let arcs = tally.figure(heap, counts.arcs, expected_arcs)?;
     let verdict = tally.judge(again == strings.again);
+    let again = number_of(&again).unwrap_or(0);
     println!(rt; "  then c: {again} ({verdict}); states {states}, arcs {arcs}")?;
     Ok(())
 }
 
-// Adds the strings in turn, and counts those that are taken.
+// Adds the strings in turn, and counts those that are taken. This walk stands twice: one with a closure was tried, but a closure that adds to a builder got no proof.
 fn add_strings<'a>(
     heap: Global,
-    strings: Strings,
+    strings: &Strings,
     builder: &mut Builder<'a, Number>,
 ) -> Result<usize, Fault> {
     let mut taken: usize = 0;
@@ -90,17 +103,16 @@ fn add_strings<'a>(
 // How many strings are answered with the number of their b.
 fn right_answers<'a>(
     heap: Global,
-    strings: Strings,
+    strings: &Strings,
     sealed: &Sealed<'a, Number>,
 ) -> Result<usize, Fault> {
     let rows = rows_of(sealed);
     let mut right: usize = 0;
     let mut key: Vec<u8> = Vec::new(heap);
     for _ in 0..strings.count {
-        if let Some(found) = answer(&rows, key.as_slice()) {
-            if found.value == count_b(key.as_slice()) {
-                right = right.saturating_add(1);
-            }
+        let value = count_b(key.as_slice());
+        if answer(&rows, key.as_slice()) == Some(Number { value }) {
+            right = right.saturating_add(1);
         }
         advance(&mut key, strings.longest)?;
     }
@@ -108,13 +120,9 @@ fn right_answers<'a>(
 }
 
 fn count_b(key: &[u8]) -> u32 {
-    let mut count: u32 = 0;
-    for byte in key {
-        if *byte == b'b' {
-            count = count.saturating_add(1);
-        }
-    }
-    count
+    key.iter().fold(0u32, |count, byte| {
+        count.saturating_add(u32::from(*byte == b'b'))
+    })
 }
 
 // The next string: one byte more, or the last a turned to b.
@@ -130,12 +138,4 @@ fn advance(key: &mut Vec<u8>, longest: usize) -> Result<(), Fault> {
     }
     key.push(b'b')?;
     Ok(())
-}
-
-// The number of an answer, 0 if the pair is taken.
-fn number_of(answer: Result<(), AddRefusal>) -> u8 {
-    match answer {
-        Ok(()) => 0,
-        Err(refusal) => refusal.number(),
-    }
 }

@@ -6,63 +6,64 @@ mod cases;
 mod damaged;
 mod letters;
 mod saved;
-mod table;
 mod thrown;
 
+use built::print_built;
 use builder_trials::trial::Score;
 use cases::print_cases;
 use damaged::print_damaged;
-use letters::{Strings, print_strings};
-use reference::sheets::{Kind, SHEETS};
+use letters::print_letters;
+use output_trials::agreement::compare;
+use output_trials::twin::Twin;
+use reference::samples::Sheet;
 use reference::tally::Tally;
-use reference::values::{PlainNumber, PlainText};
-use table::print_sheet;
+use saved::print_saved;
+use tables::{AtKind, Compiled, at_each_sheet, print_calls, print_compiled, print_figures};
 use thrown::{print_score, print_thrown};
+
+// What came of the trials so far.
+#[derive(Drop)]
+struct Trials<'a> {
+    rt: &'a HostRuntime,
+    figures: Tally,
+    calls: Tally,
+    score: Score,
+}
+
+impl AtKind for Trials<'_> {
+    fn at<V: Twin>(&mut self, sheet: &Sheet) -> anyhow::Result<()> {
+        let Compiled { pairs, image } = print_compiled::<V>(self.rt, sheet, &mut self.figures)?;
+        let pairs = pairs.as_slice();
+        print_built(self.rt, pairs, &mut self.score)?;
+        print_saved(self.rt, pairs, image.as_slice(), &mut self.figures)?;
+        compare(self.rt.alloc(), pairs, &mut self.calls)?;
+        Ok(())
+    }
+}
 
 fn main(rt: HostRuntime) -> anyhow::Result<()> {
     run(&rt)
 }
 
 fn run(rt: &HostRuntime) -> anyhow::Result<()> {
-    let mut tally = Tally::new();
-    let mut calls = Tally::new();
-    let mut score = Score::new();
-    for sheet in SHEETS.iter() {
-        match sheet.kind {
-            Kind::Numbers => print_sheet::<PlainNumber>(
-                rt, sheet, &mut tally, &mut calls, &mut score,
-            )?,
-            Kind::Texts => print_sheet::<PlainText>(rt, sheet, &mut tally, &mut calls, &mut score)?,
-        }
-    }
-    print_cases(rt, &mut tally, &mut score)?;
-    print_strings(
+    let mut trials = Trials {
         rt,
-        Strings {
-            longest: 12,
-            count: 8191,
-            again: 0,
-        },
-        &mut tally,
-    )?;
-    print_strings(
-        rt,
-        Strings {
-            longest: 19,
-            count: 1048575,
-            again: 7,
-        },
-        &mut tally,
-    )?;
-    let same = calls.agree;
-    let other = calls.differ;
-    println!(rt; "the calls of the crate outputs: {same} answers agree, {other} differ")?;
+        figures: Tally::new(),
+        calls: Tally::new(),
+        score: Score::new(),
+    };
+    at_each_sheet(&mut trials)?;
+    let Trials {
+        mut figures,
+        calls,
+        mut score,
+        ..
+    } = trials;
+    print_cases(rt, &mut figures, &mut score)?;
+    print_letters(rt, &mut figures)?;
+    print_calls(rt, calls)?;
     print_score(rt, "lists of the sheets and cases", &score)?;
     print_thrown(rt)?;
-    print_damaged(rt, &mut tally)?;
-    let count = SHEETS.len();
-    let agree = tally.agree;
-    let differ = tally.differ;
-    println!(rt; "{count} sheets, {agree} figures agree, {differ} differ")?;
-    Ok(())
+    print_damaged(rt, &mut figures)?;
+    print_figures(rt, figures)
 }

@@ -1,10 +1,11 @@
 // The pairs of a sheet sealed and saved on stores of bytes and of words, and loaded back.
-use builder_trials::building::{arc_memory, build, lines_of, state_memory};
+use builder_trials::building::{Built, build};
 use image_trials::saved::{MEMORY, refuses_short, saves_behind};
+use lending::Lent;
 use output_trials::twin::Twin;
 use reference::fault::Fault;
-use reference::machine::Pair;
 use reference::tally::Tally;
+use sheets::Pair;
 use std::alloc::Global;
 
 // Enough states and arcs for every list of the bench.
@@ -35,16 +36,8 @@ pub fn print_saved<V: Twin>(
 }
 
 pub fn try_saving<V: Twin>(heap: Global, pairs: &[Pair<V>], image: &[u8]) -> Result<Saving, Fault> {
-    let mut lines = lines_of(heap, pairs)?;
-    let mut states = state_memory::<V::Proved>(heap, ROOM)?;
-    let mut arcs = arc_memory::<V::Proved>(heap, ROOM)?;
-    let mut slots = vec![in heap; 0u16; ROOM]?;
-    let sealed = build(
-        lines.as_mut_slice(),
-        states.as_mut_slice(),
-        arcs.as_mut_slice(),
-        slots.as_mut_slice(),
-    );
+    let mut lent = Lent::new(heap, ROOM, ROOM, ROOM)?;
+    let Built { sealed, .. } = build(heap, pairs, &mut lent)?;
     let last = MEMORY.saturating_sub(image.len());
     let whole = saves_behind(heap, &sealed, image, 0)?
         && saves_behind(heap, &sealed, image, 7)?

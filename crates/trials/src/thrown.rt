@@ -1,8 +1,6 @@
 // Some thousands of thrown lists given to the builder.
-use builder_trials::dice::Dice;
-use builder_trials::lists::{Thrown, thrown_list, thrown_room};
+use builder_trials::lists::{ListDice, Thrown, thrown_list, thrown_room};
 use builder_trials::trial::{Score, try_list};
-use output_trials::twin::Twin;
 use reference::fault::Fault;
 use reference::values::{PlainNumber, PlainText};
 use std::alloc::Global;
@@ -14,14 +12,14 @@ pub fn print_thrown(rt: &HostRuntime) -> anyhow::Result<()> {
     let heap = rt.alloc();
     let mut numbers = Score::new();
     let mut texts = Score::new();
-    let mut dice = Dice::new(0x5A4B_4A4F_4C4D);
+    let mut dice = ListDice::new(0x5A4B_4A4F_4C4D);
     try_lists::<PlainNumber>(heap, &mut dice, &mut numbers)?;
     try_lists::<PlainText>(heap, &mut dice, &mut texts)?;
     print_score(rt, "thrown lists of numbers", &numbers)?;
     print_score(rt, "thrown lists of texts", &texts)
 }
 
-fn try_lists<V: Thrown>(heap: Global, dice: &mut Dice, score: &mut Score) -> Result<(), Fault> {
+fn try_lists<V: Thrown>(heap: Global, dice: &mut ListDice, score: &mut Score) -> Result<(), Fault> {
     for _ in 0..LISTS {
         let pairs = thrown_list::<V>(heap, dice)?;
         let room = thrown_room(dice);
@@ -37,11 +35,11 @@ pub fn print_score(rt: &HostRuntime, name: &str, score: &Score) -> anyhow::Resul
         machines,
         differ,
     } = *score;
-    let taken = answers.of(0);
-    let long = answers.of(5);
-    let order = answers.of(6);
-    let states = answers.of(8);
-    let arcs = answers.of(9);
+    let taken = answers.taken;
+    let long = answers.refused(5);
+    let order = answers.refused(6);
+    let states = answers.refused(8);
+    let arcs = answers.refused(9);
     println!(rt;
         "{lists} {name}: {taken} pairs taken, refused with 5: {long}, with 6: {order}, with 8: {states}, with 9: {arcs}"
     )?;

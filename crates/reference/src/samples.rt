@@ -1,19 +1,12 @@
 // The sheets of the bench, and what is expected of each.
 use crate::fault::Fault;
-use crate::machine::Pair;
-use crate::values::Value;
+use crate::values::{Kind, Value};
+use sheets::Pair;
 use std::alloc::Global;
-
-#[derive(Clone, Copy)]
-pub enum Kind {
-    Numbers,
-    Texts,
-}
 
 // A figure that only some sheets have.
 #[derive(Clone, Copy)]
 pub enum Detail {
-    Nothing,
     // What the last arc along a byte string puts out.
     Arc(&'static str, &'static str),
     // What is put out where a key ends.
@@ -33,21 +26,22 @@ pub struct Sheet {
     pub arcs: usize,
     // The length of the image.
     pub bytes: usize,
-    pub detail: Detail,
+    pub detail: Option<Detail>,
 }
 
 // The pairs that a text spells.
 pub fn read_pairs<V: Value>(heap: Global, text: &str) -> Result<Vec<Pair<V>>, Fault> {
-    let mut pairs = Vec::new(heap);
-    for word in text.split_whitespace() {
-        let Some((key, shown)) = word.split_once('=') else {
-            return Err(Fault::Unreadable);
-        };
-        let key = key.as_bytes().to_vec(heap)?;
-        let output = V::read(heap, shown)?;
-        pairs.push(Pair { key, output })?;
-    }
-    Ok(pairs)
+    text.split_whitespace()
+        .map(|word| read_pair(heap, word))
+        .try_collect(heap)
+}
+
+fn read_pair<V: Value>(heap: Global, word: &str) -> Result<Pair<V>, Fault> {
+    let (key, shown) = word.split_once('=').ok_or(Fault::Unreadable)?;
+    Ok(Pair {
+        key: key.as_bytes().to_vec(heap)?,
+        output: V::read(heap, shown)?,
+    })
 }
 
 pub static SHEETS: [Sheet; 19] = [
@@ -58,9 +52,9 @@ pub static SHEETS: [Sheet; 19] = [
         states: 1,
         arcs: 0,
         bytes: 26,
-        detail: Detail::Image(
+        detail: Some(Detail::Image(
             "54 44 01 00 01 00 00 00 00 08 00 00 00 38 00 00 04 6C 00 00 00 20 00 00 00 00",
-        ),
+        )),
     },
     Sheet {
         name: "one key",
@@ -69,7 +63,7 @@ pub static SHEETS: [Sheet; 19] = [
         states: 2,
         arcs: 1,
         bytes: 41,
-        detail: Detail::Nothing,
+        detail: None,
     },
     Sheet {
         name: "two keys",
@@ -78,7 +72,7 @@ pub static SHEETS: [Sheet; 19] = [
         states: 2,
         arcs: 2,
         bytes: 48,
-        detail: Detail::Arc("B", "2"),
+        detail: Some(Detail::Arc("B", "2")),
     },
     Sheet {
         name: "two texts",
@@ -87,7 +81,7 @@ pub static SHEETS: [Sheet; 19] = [
         states: 3,
         arcs: 3,
         bytes: 49,
-        detail: Detail::Arc("P2", "'p'"),
+        detail: Some(Detail::Arc("P2", "'p'")),
     },
     Sheet {
         name: "a key and a longer one",
@@ -96,7 +90,7 @@ pub static SHEETS: [Sheet; 19] = [
         states: 3,
         arcs: 2,
         bytes: 59,
-        detail: Detail::Arc("ab", "2"),
+        detail: Some(Detail::Arc("ab", "2")),
     },
     Sheet {
         name: "one ending",
@@ -105,7 +99,7 @@ pub static SHEETS: [Sheet; 19] = [
         states: 3,
         arcs: 3,
         bytes: 62,
-        detail: Detail::Arc("b", "4"),
+        detail: Some(Detail::Arc("b", "4")),
     },
     Sheet {
         name: "the greater output first",
@@ -114,7 +108,7 @@ pub static SHEETS: [Sheet; 19] = [
         states: 3,
         arcs: 2,
         bytes: 59,
-        detail: Detail::End("a", "3"),
+        detail: Some(Detail::End("a", "3")),
     },
     Sheet {
         name: "shared endings",
@@ -123,7 +117,7 @@ pub static SHEETS: [Sheet; 19] = [
         states: 8,
         arcs: 9,
         bytes: 143,
-        detail: Detail::Nothing,
+        detail: None,
     },
     Sheet {
         name: "every output equal",
@@ -132,7 +126,7 @@ pub static SHEETS: [Sheet; 19] = [
         states: 3,
         arcs: 5,
         bytes: 76,
-        detail: Detail::Nothing,
+        detail: None,
     },
     Sheet {
         name: "each key a prefix of the next",
@@ -141,7 +135,7 @@ pub static SHEETS: [Sheet; 19] = [
         states: 4,
         arcs: 3,
         bytes: 59,
-        detail: Detail::Nothing,
+        detail: None,
     },
     Sheet {
         name: "the widest numbers",
@@ -150,7 +144,7 @@ pub static SHEETS: [Sheet; 19] = [
         states: 2,
         arcs: 3,
         bytes: 55,
-        detail: Detail::Nothing,
+        detail: None,
     },
     Sheet {
         name: "the longest text",
@@ -159,7 +153,7 @@ pub static SHEETS: [Sheet; 19] = [
         states: 3,
         arcs: 4,
         bytes: 78,
-        detail: Detail::Nothing,
+        detail: None,
     },
     Sheet {
         name: "bytes above 127",
@@ -168,7 +162,7 @@ pub static SHEETS: [Sheet; 19] = [
         states: 5,
         arcs: 6,
         bytes: 99,
-        detail: Detail::Nothing,
+        detail: None,
     },
     Sheet {
         name: "a small logger",
@@ -177,7 +171,7 @@ pub static SHEETS: [Sheet; 19] = [
         states: 6,
         arcs: 9,
         bytes: 128,
-        detail: Detail::Nothing,
+        detail: None,
     },
     Sheet {
         name: "its units",
@@ -186,7 +180,7 @@ pub static SHEETS: [Sheet; 19] = [
         states: 6,
         arcs: 9,
         bytes: 108,
-        detail: Detail::Nothing,
+        detail: None,
     },
     Sheet {
         name: "two dams",
@@ -195,7 +189,7 @@ pub static SHEETS: [Sheet; 19] = [
         states: 8,
         arcs: 10,
         bytes: 150,
-        detail: Detail::Nothing,
+        detail: None,
     },
     Sheet {
         name: "their units",
@@ -204,7 +198,7 @@ pub static SHEETS: [Sheet; 19] = [
         states: 8,
         arcs: 10,
         bytes: 112,
-        detail: Detail::Nothing,
+        detail: None,
     },
     Sheet {
         name: "twelve tags",
@@ -213,7 +207,7 @@ pub static SHEETS: [Sheet; 19] = [
         states: 15,
         arcs: 25,
         bytes: 309,
-        detail: Detail::Nothing,
+        detail: None,
     },
     Sheet {
         name: "twelve texts",
@@ -222,6 +216,6 @@ pub static SHEETS: [Sheet; 19] = [
         states: 15,
         arcs: 25,
         bytes: 279,
-        detail: Detail::Nothing,
+        detail: None,
     },
 ];

@@ -1,0 +1,35 @@
+//! Numbers that look thrown, the same at every run.
+#![tactic(auto)]
+
+ghost use Rattle.std.specs.Prelude.{◌≡◌, ◌<◌};
+
+/// A shift register of 64 bits that is never zero. Its throws leave out the lowest bits, so many as `SKIPPED` says.
+#[derive(Clone, Copy)]
+pub struct Dice<const SKIPPED: u32> {
+    state: u64,
+}
+
+impl<const SKIPPED: u32> Dice<SKIPPED> {
+    pub fn new(seed: u64) -> Dice<SKIPPED> {
+        Dice { state: seed | 1 }
+    }
+
+    fn step(&mut self) -> u64 {
+        let mut state = self.state;
+        state ^= state << 13;
+        state ^= state >> 7;
+        state ^= state << 17;
+        self.state = state;
+        state
+    }
+
+    /// A number below `sides`, or 0 where there is none.
+    pub fn below(&mut self, sides: usize) -> usize
+        ensures { 0 < sides → result < sides }
+    {
+        if sides == 0 {
+            return 0;
+        }
+        self.step().wrapping_shr(SKIPPED) as usize % sides
+    }
+}
