@@ -41,16 +41,11 @@ fn same_state<V: Twin>(
 }
 
 fn same_end<V: Twin>(plain: &PlainState<V>, state: &State<V::Proved>) -> bool {
-    match (&plain.end, end_of(state)) {
-        (Some(output), Some(end)) => output.means(&end),
+    match (&plain.end, &state.end) {
+        (Some(output), Some(end)) => output.means(end),
         (None, None) => true,
         _ => false,
     }
-}
-
-/// What is put out where a key ends in a state.
-fn end_of<O: Output>(state: &State<O>) -> Option<O> {
-    state.ends.then_some(state.end)
 }
 
 fn same_arc<V: Twin>(plain: &PlainArc<V>, arc: &Arc<V::Proved>) -> bool {
@@ -85,11 +80,11 @@ fn arc_on<O: Output>(arcs: &[Arc<O>], byte: u8) -> Option<&Arc<O>> {
 /// What is put out where a byte string ends.
 pub fn end_after<'b, O: Output>(rows: &Rows<'b, O>, string: &[u8]) -> Option<O> {
     let (state, _) = walk(rows, string)?;
-    end_of(&state)
+    state.end
 }
 
 /// The output of a key.
 pub fn answer<'b, O: Output>(rows: &Rows<'b, O>, key: &[u8]) -> Option<O> {
     let (state, output) = walk(rows, key)?;
-    Some(output.join(&end_of(&state)?))
+    Some(output.join(&state.end?))
 }

@@ -34,8 +34,7 @@ impl<O: Output> Lent<O> {
         ensures slots { IfOk result (λ lent. vec_len lent.slots ≡ slots) }
     {
         let state = State {
-            ends: false,
-            end: O::empty(),
+            end: None,
             count: 0,
             first: 0,
             keys: 0,
