@@ -119,7 +119,10 @@ fn test_key<V>(taken: &[Pair<V>], key: &[u8]) -> Result<(), Reason> {
     if key.len() > 64 {
         return Err(Reason::LongKey);
     }
-    if taken.last().is_some_and(|newest| key <= newest.key.as_slice()) {
+    if taken
+        .last()
+        .is_some_and(|newest| key <= newest.key.as_slice())
+    {
         return Err(Reason::OutOfOrder);
     }
     Ok(())
@@ -145,7 +148,10 @@ fn asked_by<V: Value>(heap: Global, taken: &[Pair<V>], key: &[u8]) -> Result<Roo
 
 /// The length of a key less that of its common prefix with the newest.
 fn growth_of(key: &[u8], newest: &[u8]) -> usize {
-    let shared = key.iter().zip(newest).take_while(|(byte, other)| byte == other);
+    let shared = key
+        .iter()
+        .zip(newest)
+        .take_while(|(byte, other)| byte == other);
     key.len().saturating_sub(shared.count())
 }
 

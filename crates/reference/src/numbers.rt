@@ -25,9 +25,6 @@ impl Numbers {
     }
 
     pub fn refused(&self, number: u8) -> usize {
-        self.refused
-            .get(usize::from(number))
-            .copied()
-            .unwrap_or(0)
+        self.refused.get(usize::from(number)).copied().unwrap_or(0)
     }
 }

@@ -18,21 +18,17 @@ const KIND: usize = 2;
 /// Answers each line of standard input from the image in a file.
 pub fn answer(rt: &HostRuntime, path: &str) -> anyhow::Result<()> {
     let mut image = fs::read(rt, path)?;
-    match image.get(KIND).copied() {
-        Some(kind) if kind == <Text as Output>::kind_number() => {
-            answer_from::<Text>(rt, image.as_mut_slice())
-        }
-        _ => answer_from::<Number>(rt, image.as_mut_slice()),
+    if image.get(KIND).copied() == Some(<Text as Output>::kind_number()) {
+        answer_from::<Text>(rt, image.as_mut_slice())
+    } else {
+        answer_from::<Number>(rt, image.as_mut_slice())
     }
 }
 
 fn answer_from<O: Value>(rt: &HostRuntime, image: &mut [u8]) -> anyhow::Result<()> {
-    let heap = rt.alloc();
     let bytes = image.len();
-    let mut working = working_room(heap)?;
-    if let Err(refusal) = ByteStore::check(image, bytes) {
-        return Err(Fault::Refused(refusal.number()).into());
-    }
+    let mut working = working_room(rt.alloc())?;
+    ByteStore::check(image, bytes).map_err(Fault::Store)?;
     let store = ByteStore::new(image, bytes);
     let loaded = open_image::<O, ByteStore>(&store, working.as_mut_slice())?;
     answer_lines(rt, &loaded)
@@ -54,12 +50,11 @@ fn reply<O: Value, S: Store>(
     rt: &HostRuntime,
     loaded: &Loaded<O, S>,
     key: &[u8],
-) -> anyhow::Result<Vec<u8>> {
+) -> Result<Vec<u8>, Fault> {
     let heap = rt.alloc();
-    let mut words = match find(loaded, key) {
-        Ok(Some(output)) => output.shown(heap)?,
-        Ok(None) => Vec::from_slice(heap, b"absent")?,
-        Err(refusal) => return Err(Fault::Refused(refusal.number()).into()),
+    let mut words = match find(loaded, key)? {
+        Some(output) => output.shown(heap)?,
+        None => b"absent".to_vec(heap)?,
     };
     words.push(b'\n')?;
     Ok(words)

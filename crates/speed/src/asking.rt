@@ -1,10 +1,9 @@
 //! Asking an image.
 use crate::fault::Fault;
-use crate::pairs::Pair;
-use crate::questions::Questions;
 use loading::Loaded;
 use outputs::output::Output;
 use reading::find;
+use sheets::Pair;
 use stores::Store;
 
 /// How many strings are keys, and the last output that was found.
@@ -14,19 +13,26 @@ pub struct Tally<O> {
     pub last: O,
 }
 
-/// Looks all strings up.
-pub fn ask_all<O: Output, S: Store>(loaded: &Loaded<O, S>, questions: &Questions) -> Tally<O> {
-    let mut found = 0usize;
-    let mut last = O::empty();
-    let mut start = 0;
-    for end in questions.ends.iter() {
-        if let Ok(Some(output)) = find(loaded, questions.between(start, *end)) {
-            found = found.saturating_add(1);
-            last = output;
-        }
-        start = *end;
+impl<O: Output> Tally<O> {
+    /// Whether both came of the same answers, as far as a tally tells.
+    pub fn same(&self, other: &Tally<O>) -> bool {
+        self.found == other.found && self.last.same(&other.last)
     }
-    Tally { found, last }
+}
+
+/// Looks all strings up.
+pub fn ask_all<O: Output, S: Store>(loaded: &Loaded<O, S>, questions: &[Vec<u8>]) -> Tally<O> {
+    let mut tally = Tally {
+        found: 0,
+        last: O::empty(),
+    };
+    for question in questions {
+        if let Ok(Some(output)) = find(loaded, question.as_slice()) {
+            tally.found = tally.found.saturating_add(1);
+            tally.last = output;
+        }
+    }
+    tally
 }
 
 /// Each key has its output.
@@ -46,7 +52,7 @@ pub fn check_keys<O: Output, S: Store>(
 /// No string is a key.
 pub fn check_misses<O: Output, S: Store>(
     loaded: &Loaded<O, S>,
-    misses: &Questions,
+    misses: &[Vec<u8>],
 ) -> Result<(), Fault> {
     if ask_all(loaded, misses).found > 0 {
         return Err(Fault::Miss);

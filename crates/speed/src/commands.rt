@@ -1,16 +1,18 @@
 //! What each command does.
-use crate::asking::{check_keys, check_misses};
-use crate::chance::Chance;
-use crate::compiling::{build, compile, open_image};
-use crate::memory::{Lent, image_room, working_room};
-use crate::pairs::{Kind, Pair, kind_of, read_pairs};
-use crate::questions::{keys_shuffled, near_misses};
+use crate::asking::{ask_all, check_keys, check_misses};
+use crate::compiling::{build, compile, open_image, store_image};
+use crate::memory::Memory;
+use crate::pairs::{Kind, kind_of, read_pairs};
+use crate::questions::{QuestionDice, keys_shuffled, near_misses};
 use crate::report::{print_figures, print_time};
-use crate::timing::{time_build, time_find, time_load, time_save};
+use crate::timing::best_time;
 use crate::values::Value;
+use anyhow::ensure;
+use loading::Loaded;
 use outputs::number::Number;
 use outputs::output::Output;
 use outputs::text::Text;
+use sheets::Pair;
 use std::fs;
 use stores::{ByteStore, Store};
 
@@ -28,7 +30,7 @@ pub enum Task {
     Write(String),
 }
 
-/// Does a task with a sheet of either kind.
+/// Does a task with a sheet of either kind. Only two calls are chosen here, so a trait with a generic method would be longer.
 pub fn do_task(rt: &HostRuntime, path: &str, task: &Task) -> anyhow::Result<()> {
     let text = fs::read(rt, path)?;
     match kind_of(text.as_slice()) {
@@ -39,82 +41,104 @@ pub fn do_task(rt: &HostRuntime, path: &str, task: &Task) -> anyhow::Result<()> 
 
 fn do_with<O: Value>(rt: &HostRuntime, text: &[u8], task: &Task) -> anyhow::Result<()> {
     let pairs = read_pairs::<O>(rt.alloc(), text)?;
+    let pairs = pairs.as_slice();
+    let mut memory = Memory::new(rt.alloc())?;
     match task {
-        Task::Check => check_sheet(rt, pairs.as_slice()),
+        Task::Check => check_sheet(rt, pairs, &mut memory),
         Task::Time => {
-            check_sheet(rt, pairs.as_slice())?;
-            time_sheet(rt, pairs.as_slice())
+            check_sheet(rt, pairs, &mut memory)?;
+            time_sheet(rt, pairs, &mut memory)
         }
-        Task::Write(image) => write_image(rt, pairs.as_slice(), image.as_str()),
+        Task::Write(path) => write_image(rt, pairs, &mut memory, path.as_str()),
     }
 }
 
-fn check_sheet<O: Value>(rt: &HostRuntime, pairs: &[Pair<O>]) -> anyhow::Result<()> {
-    let heap = rt.alloc();
-    let mut lent = Lent::new(heap)?;
-    let mut image = image_room(heap)?;
-    let mut working = working_room(heap)?;
-    let figures = compile(&mut lent, pairs, image.as_mut_slice())?;
+fn check_sheet<O: Value>(
+    rt: &HostRuntime,
+    pairs: &[Pair<O>],
+    memory: &mut Memory<O>,
+) -> anyhow::Result<()> {
+    let figures = compile(memory, pairs)?;
     print_figures(rt, pairs.len(), figures)?;
-    let store = ByteStore::new(image.as_mut_slice(), figures.bytes);
-    let loaded = open_image::<O, ByteStore>(&store, working.as_mut_slice())?;
-    let misses = near_misses(heap, pairs, &mut Chance::new(SEED))?;
+    let store = ByteStore::new(memory.image.as_mut_slice(), figures.bytes);
+    let loaded = open_image::<O, ByteStore>(&store, memory.working.as_mut_slice())?;
+    let misses = near_misses(rt.alloc(), pairs, &mut QuestionDice::new(SEED))?;
     check_keys(&loaded, pairs)?;
-    check_misses(&loaded, &misses)?;
-    let count = misses.ends.len();
+    check_misses(&loaded, misses.as_slice())?;
+    let count = misses.len();
     println!(rt; "every key has its output, and {count} near misses are absent")?;
     Ok(())
 }
 
-fn time_sheet<O: Value>(rt: &HostRuntime, pairs: &[Pair<O>]) -> anyhow::Result<()> {
-    let heap = rt.alloc();
-    let mut lent = Lent::new(heap)?;
-    let mut image = image_room(heap)?;
-    let count = pairs.len();
-    let figures = compile(&mut lent, pairs, image.as_mut_slice())?;
-    print_time(rt, "build", time_build(rt, &mut lent, pairs)?, count)?;
-    let sealed = build(&mut lent, pairs)?;
-    print_time(
-        rt,
-        "save",
-        time_save(rt, &sealed, image.as_mut_slice())?,
-        count,
-    )?;
-    time_reading(
-        rt,
-        pairs,
-        &ByteStore::new(image.as_mut_slice(), figures.bytes),
-    )
-}
-
-fn time_reading<O: Value, S: Store>(
+fn time_sheet<O: Value>(
     rt: &HostRuntime,
     pairs: &[Pair<O>],
-    store: &S,
+    memory: &mut Memory<O>,
 ) -> anyhow::Result<()> {
-    let heap = rt.alloc();
-    let mut working = working_room(heap)?;
-    let mut chance = Chance::new(SEED);
-    let keys = keys_shuffled(heap, pairs, &mut chance)?;
-    let misses = near_misses(heap, pairs, &mut chance)?;
-    let load = time_load::<O, S>(rt, store, working.as_mut_slice())?;
-    print_time(rt, "load", load, pairs.len())?;
-    let loaded = open_image::<O, S>(store, working.as_mut_slice())?;
-    print_time(rt, "find", time_find(rt, &loaded, &keys)?, keys.ends.len())?;
-    print_time(
-        rt,
-        "miss",
-        time_find(rt, &loaded, &misses)?,
-        misses.ends.len(),
-    )
+    let Memory {
+        lent,
+        image,
+        working,
+    } = memory;
+    let count = pairs.len();
+    let time = best_time(rt, || {
+        let _sealed = build(lent, pairs)?;
+        Ok(())
+    })?;
+    print_time(rt, "build", time, count)?;
+    let sealed = build(lent, pairs)?;
+    let time = best_time(rt, || {
+        let _length = store_image(&sealed, image.as_mut_slice())?;
+        Ok(())
+    })?;
+    print_time(rt, "save", time, count)?;
+    let bytes = store_image(&sealed, image.as_mut_slice())?;
+    let store = ByteStore::new(image.as_mut_slice(), bytes);
+    let time = best_time(rt, || {
+        let _loaded = open_image::<O, ByteStore>(&store, working.as_mut_slice())?;
+        Ok(())
+    })?;
+    print_time(rt, "load", time, count)?;
+    let loaded = open_image::<O, ByteStore>(&store, working.as_mut_slice())?;
+    time_finding(rt, pairs, &loaded)
 }
 
-fn write_image<O: Value>(rt: &HostRuntime, pairs: &[Pair<O>], path: &str) -> anyhow::Result<()> {
-    let heap = rt.alloc();
-    let mut lent = Lent::new(heap)?;
-    let mut image = image_room(heap)?;
-    let figures = compile(&mut lent, pairs, image.as_mut_slice())?;
-    image.truncate(figures.bytes);
-    fs::write(rt, path, image.as_slice())?;
+fn time_finding<O: Value, S: Store>(
+    rt: &HostRuntime,
+    pairs: &[Pair<O>],
+    loaded: &Loaded<O, S>,
+) -> anyhow::Result<()> {
+    let mut dice = QuestionDice::new(SEED);
+    let keys = keys_shuffled(rt.alloc(), pairs, &mut dice)?;
+    let misses = near_misses(rt.alloc(), pairs, &mut dice)?;
+    time_find(rt, "find", loaded, keys.as_slice())?;
+    time_find(rt, "miss", loaded, misses.as_slice())
+}
+
+/// Times the looking up of all strings, each round with the answers of the first.
+fn time_find<O: Output, S: Store>(
+    rt: &HostRuntime,
+    call: &str,
+    loaded: &Loaded<O, S>,
+    questions: &[Vec<u8>],
+) -> anyhow::Result<()> {
+    let expected = ask_all(loaded, questions);
+    let time = best_time(rt, || {
+        let tally = ask_all(loaded, questions);
+        ensure!(tally.same(&expected), "two rounds have different answers");
+        Ok(())
+    })?;
+    print_time(rt, call, time, questions.len())
+}
+
+fn write_image<O: Value>(
+    rt: &HostRuntime,
+    pairs: &[Pair<O>],
+    memory: &mut Memory<O>,
+    path: &str,
+) -> anyhow::Result<()> {
+    let figures = compile(memory, pairs)?;
+    memory.image.truncate(figures.bytes);
+    fs::write(rt, path, memory.image.as_slice())?;
     print_figures(rt, pairs.len(), figures)
 }

@@ -1,12 +1,12 @@
 //! From pairs to an image.
 use crate::fault::{Fault, Trouble};
-use crate::memory::Lent;
-use crate::pairs::Pair;
-use adding::refusal::AddRefusal;
-use builder::{Builder, Sealed};
+use crate::memory::Memory;
+use builder::Sealed;
+use lending::Lent;
 use loading::{Loaded, load};
 use outputs::output::Output;
 use saving::save_sealed;
+use sheets::Pair;
 use stores::{ByteStore, Store};
 
 /// How large a dictionary is.
@@ -22,44 +22,30 @@ pub fn build<'a, O: Output>(
     lent: &'a mut Lent<O>,
     pairs: &[Pair<O>],
 ) -> Result<Sealed<'a, O>, Fault> {
-    let mut builder = Builder::new(
-        lent.states.as_mut_slice(),
-        lent.arcs.as_mut_slice(),
-        lent.slots.as_mut_slice(),
-    );
+    let mut builder = lent.builder();
     for (i, pair) in pairs.iter().enumerate() {
-        if let Err(refusal) = builder.add(pair.key.as_slice(), pair.output) {
-            return Err(Fault::Line(i.saturating_add(1), Trouble::Refused(refusal.number())));
-        }
+        builder.add(pair.key.as_slice(), pair.output).map_err(|refusal| Fault::Line(
+            i.saturating_add(1),
+            Trouble::Pair(refusal),
+        ))?;
     }
-    if let Err(refusal) = builder.check_seal() {
-        return Err(Fault::Refused(refusal.number()));
-    }
+    builder.check_seal()?;
     Ok(builder.seal())
 }
 
 /// Puts the image at the start of the memory, and gives its length.
 pub fn store_image<O: Output>(sealed: &Sealed<'_, O>, image: &mut [u8]) -> Result<usize, Fault> {
-    let mut store = ByteStore::new(image, 0);
-    match save_sealed(sealed, &mut store) {
-        Ok(saved) => Ok(saved.length),
-        Err(refusal) => Err(Fault::Refused(refusal.number())),
-    }
+    Ok(save_sealed(sealed, &mut ByteStore::new(image, 0))?.length)
 }
 
-/// Seals the pairs and puts their image at the start of the memory.
-pub fn compile<O: Output>(
-    lent: &mut Lent<O>,
-    pairs: &[Pair<O>],
-    image: &mut [u8],
-) -> Result<Figures, Fault> {
-    let sealed = build(lent, pairs)?;
+/// Seals the pairs and puts their image at the start of its memory.
+pub fn compile<O: Output>(memory: &mut Memory<O>, pairs: &[Pair<O>]) -> Result<Figures, Fault> {
+    let sealed = build(&mut memory.lent, pairs)?;
     let counts = sealed.counts();
-    let bytes = store_image(&sealed, image)?;
     Ok(Figures {
         states: counts.states,
         arcs: counts.arcs,
-        bytes,
+        bytes: store_image(&sealed, memory.image.as_mut_slice())?,
     })
 }
 
@@ -68,8 +54,5 @@ pub fn open_image<'a, O: Output, S: Store>(
     store: &'a S,
     working: &mut [u8],
 ) -> Result<Loaded<O, &'a S>, Fault> {
-    match load::<O, &'a S>(store, working) {
-        Ok(loaded) => Ok(loaded),
-        Err(refusal) => Err(Fault::Image(refusal.number(), refusal.place())),
-    }
+    Ok(load::<O, &'a S>(store, working)?)
 }

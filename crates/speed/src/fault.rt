@@ -1,103 +1,101 @@
 //! What is wrong with a sheet or an image, in plain words.
-use std::alloc::{AllocError, AllocFailed};
-use std::error::Error;
-use std::fmt;
+use adding::refusal::AddRefusal;
+use builder::SealRefusal;
+use loading::LoadRefusal;
+use outputs::refusal::TextRefusal;
+use reading::ReadRefusal;
+use saving::SaveRefusal;
+use std::alloc::AllocError;
+use stores::Refusal;
+use thiserror::Error;
 
 /// Why the program stops.
-#[derive(Clone, Copy, PartialEq, Eq, Debug)]
+#[derive(Clone, Copy, PartialEq, Eq, Debug, Error)]
 pub enum Fault {
-    /// There is no memory left.
-    Memory,
+    #[error("there is no memory left")]
+    Memory(#[from(alloc)] AllocError),
     /// A line of the sheet is at fault.
+    #[error("line {0}: {1}")]
     Line(usize, Trouble),
-    /// A call refuses, with its number.
-    Refused(u8),
-    /// Load refuses, with its number and the bit place.
-    Image(u8, usize),
+    #[error("refusal {number}, {why}", number = .0.number(), why = seal_words(*.0))]
+    Seal(#[from] SealRefusal),
+    #[error("refusal {number}, {why}", number = .0.number(), why = save_words(*.0))]
+    Save(#[from] SaveRefusal),
+    #[error("refusal {number}, {why}", number = .0.number(), why = store_words(*.0))]
+    Store(#[from] Refusal),
+    #[error("refusal {number} at bit {place}, {why}", number = .0.number(), place = .0.place(), why = load_words(*.0))]
+    Load(#[from] LoadRefusal),
+    #[error("refusal {number}, {why}", number = .0.number(), why = read_words(*.0))]
+    Read(#[from] ReadRefusal),
     /// The key on a line is not answered with its output.
+    #[error("line {0}: the key has another answer")]
     Answer(usize),
     /// A string that is no key is answered.
+    #[error("a string that is no key is answered")]
     Miss,
 }
 
 /// What is wrong with a line.
-#[derive(Clone, Copy, PartialEq, Eq, Debug)]
+#[derive(Clone, Copy, PartialEq, Eq, Debug, Error)]
 pub enum Trouble {
-    /// It has no TAB.
+    #[error("there is no TAB")]
     NoTab,
     /// What follows the TAB is no number of 32 bits, written with digits.
+    #[error("what follows the TAB is no number from 0 to 4294967295")]
     NoNumber,
-    /// Its text or its pair is refused, with this number.
-    Refused(u8),
+    #[error("refusal {number}, {why}", number = .0.number(), why = text_words(*.0))]
+    Text(#[from] TextRefusal),
+    #[error("refusal {number}, {why}", number = .0.number(), why = add_words(*.0))]
+    Pair(#[from] AddRefusal),
 }
 
-/// When a refusal comes, by its number.
-fn words(number: u8) -> &'static str {
-    match number {
-        1 => "the text has more than 24 bytes",
-        5 => "the key has more than 64 bytes",
-        6 => "the key is not above the one before it",
-        7 => "a dictionary has at most 1048575 keys",
-        8 => "the dictionary would have more than 65535 states",
-        9 => "the dictionary would have more than 131071 arcs",
-        10 => "there is no pair",
-        13 => "an image has at most 16777216 bytes",
-        15 => "the image has no room",
-        16 => "the image is cut short",
-        17 => "this is no image",
-        18 => "the image has another kind of outputs",
-        27 => "an output on the way is too large",
+fn text_words(refusal: TextRefusal) -> &'static str {
+    match refusal {
+        TextRefusal::TooLong => "the text has more than 24 bytes",
+    }
+}
+
+fn add_words(refusal: AddRefusal) -> &'static str {
+    match refusal {
+        AddRefusal::LongKey => "the key has more than 64 bytes",
+        AddRefusal::OutOfOrder => "the key is not above the one before it",
+        AddRefusal::TooManyPairs => "a dictionary has at most 1048575 keys",
+        AddRefusal::NoStateRoom => "the dictionary would have more than 65535 states",
+        AddRefusal::NoArcRoom => "the dictionary would have more than 131071 arcs",
+    }
+}
+
+fn seal_words(refusal: SealRefusal) -> &'static str {
+    match refusal {
+        SealRefusal::NoPair => "there is no pair",
+    }
+}
+
+fn save_words(refusal: SaveRefusal) -> &'static str {
+    match refusal {
+        SaveRefusal::NoPairs => "there is no pair",
+        SaveRefusal::NoRoom => "the image has no room",
+    }
+}
+
+fn store_words(refusal: Refusal) -> &'static str {
+    match refusal {
+        Refusal::BadMemory => "an image has at most 16777216 bytes",
         _ => "the image is damaged",
     }
 }
 
-impl fmt::Display for Trouble {
-    fn fmt<W: fmt::Write>(&self, f: &mut fmt::Formatter<W>) -> fmt::Result {
-        match self {
-            Trouble::NoTab => write!(f, "there is no TAB"),
-            Trouble::NoNumber => {
-                write!(f, "what follows the TAB is no number from 0 to 4294967295")
-            }
-            Trouble::Refused(number) => {
-                let number = *number;
-                let why = words(number);
-                write!(f, "refusal {number}, {why}")
-            }
-        }
+fn load_words(refusal: LoadRefusal) -> &'static str {
+    match refusal {
+        LoadRefusal::Cut(_) => "the image is cut short",
+        LoadRefusal::Mark(_) => "this is no image",
+        LoadRefusal::Kind(_) => "the image has another kind of outputs",
+        _ => "the image is damaged",
     }
 }
 
-impl fmt::Display for Fault {
-    fn fmt<W: fmt::Write>(&self, f: &mut fmt::Formatter<W>) -> fmt::Result {
-        match self {
-            Fault::Memory => write!(f, "there is no memory left"),
-            Fault::Line(line, trouble) => write!(f, "line {line}: {trouble}"),
-            Fault::Refused(number) => {
-                let number = *number;
-                let why = words(number);
-                write!(f, "refusal {number}, {why}")
-            }
-            Fault::Image(number, place) => {
-                let number = *number;
-                let why = words(number);
-                write!(f, "refusal {number} at bit {place}, {why}")
-            }
-            Fault::Answer(line) => write!(f, "line {line}: the key has another answer"),
-            Fault::Miss => write!(f, "a string that is no key is answered"),
-        }
-    }
-}
-
-impl Error for Fault {}
-
-impl From<AllocError> for Fault {
-    fn from(_error: AllocError) -> Fault {
-        Fault::Memory
-    }
-}
-
-impl<T: Drop> From<AllocFailed<T>> for Fault {
-    fn from(_error: AllocFailed<T>) -> Fault {
-        Fault::Memory
+fn read_words(refusal: ReadRefusal) -> &'static str {
+    match refusal {
+        ReadRefusal::Unstorable => "an output on the way is too large",
     }
 }

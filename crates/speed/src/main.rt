@@ -3,7 +3,6 @@
 
 mod answering;
 mod asking;
-mod chance;
 mod commands;
 mod compiling;
 mod fault;

@@ -1,6 +1,6 @@
-//! The memory that is lent to a builder, to a store and to load.
+//! The memory for a sheet: what is lent to a builder, to a store and to load.
+use lending::Lent;
 use outputs::output::Output;
-use records::record::{Arc, State};
 use std::alloc::{AllocError, Global};
 
 /// The most states and arcs of a dictionary.
@@ -14,40 +14,24 @@ const SLOTS: usize = 131_072;
 /// The most bytes of a store.
 const BYTES: usize = 16_777_216;
 
-/// What a builder works in.
+/// Memory for the largest dictionary.
 #[derive(Drop)]
-pub struct Lent<O> {
-    pub states: Vec<State<O>>,
-    pub arcs: Vec<Arc<O>>,
-    pub slots: Vec<u16>,
+pub struct Memory<O> {
+    pub lent: Lent<O>,
+    /// Room for an image.
+    pub image: Vec<u8>,
+    /// A working byte for each state that an image can have.
+    pub working: Vec<u8>,
 }
 
-impl<O: Output + Clone> Lent<O> {
-    pub fn new(heap: Global) -> Result<Lent<O>, AllocError> {
-        let nothing = O::empty();
-        let state = State {
-            ends: false,
-            end: nothing,
-            count: 0,
-            first: 0,
-            keys: 0,
-        };
-        let arc = Arc {
-            byte: 0,
-            target: 0,
-            output: nothing,
-        };
-        Ok(Lent {
-            states: vec![in heap; state; STATES]?,
-            arcs: vec![in heap; arc; ARCS]?,
-            slots: vec![in heap; 0u16; SLOTS]?,
+impl<O: Output> Memory<O> {
+    pub fn new(heap: Global) -> Result<Memory<O>, AllocError> {
+        Ok(Memory {
+            lent: Lent::new(heap, STATES, ARCS, SLOTS)?,
+            image: vec![in heap; 0u8; BYTES]?,
+            working: working_room(heap)?,
         })
     }
-}
-
-/// Room for the largest image.
-pub fn image_room(heap: Global) -> Result<Vec<u8>, AllocError> {
-    vec![in heap; 0u8; BYTES]
 }
 
 /// A working byte for each state that an image can have.

@@ -1,16 +1,8 @@
 //! The pairs of a sheet.
 use crate::fault::{Fault, Trouble};
 use crate::values::Value;
-use sheets::{cut, decimal, first};
+use sheets::{Pair, cut, decimal};
 use std::alloc::Global;
-use std::cmp::Ordering;
-
-/// A key with its output. Pair `i` stands on line `i + 1` of the sheet.
-#[derive(Drop)]
-pub struct Pair<O> {
-    pub key: Vec<u8>,
-    pub output: O,
-}
 
 /// What stands behind the keys of a sheet.
 #[derive(Clone, Copy)]
@@ -21,51 +13,33 @@ pub enum Kind {
 
 /// The kind of a sheet, by its first line.
 pub fn kind_of(text: &[u8]) -> Kind {
-    let Some(line) = cut(&text[0..first(text, b'\n')]) else {
-        return Kind::Texts;
-    };
-    match decimal(line.field) {
+    let line = text.split(|byte| *byte == b'\n').next();
+    match line.and_then(|line| decimal(cut(line)?.field)) {
         Some(_) => Kind::Numbers,
         None => Kind::Texts,
     }
 }
 
-fn read_line<O: Value>(heap: Global, line: &[u8], number: usize) -> Result<Pair<O>, Fault> {
-    let Some(line) = cut(line) else {
-        return Err(Fault::Line(number, Trouble::NoTab));
-    };
-    let key = Vec::from_slice(heap, line.key)?;
-    match O::parse(line.field) {
-        Ok(output) => Ok(Pair { key, output }),
-        Err(trouble) => Err(Fault::Line(number, trouble)),
-    }
+/// The pairs of a sheet, line by line: pair `i` stands on line `i + 1`.
+pub fn read_pairs<O: Value>(heap: Global, text: &[u8]) -> Result<Vec<Pair<O>>, Fault> {
+    text.split_inclusive(|byte| *byte == b'\n')
+        .enumerate()
+        .map(|(i, line)| read_line(heap, line, i.saturating_add(1)))
+        .try_collect(heap)
 }
 
-/// The pairs of a sheet, line by line.
-pub fn read_pairs<O: Value>(heap: Global, text: &[u8]) -> Result<Vec<Pair<O>>, Fault> {
-    let mut pairs = Vec::new(heap);
-    let mut place = 0;
-    while place < text.len() {
-        let rest = &text[place..];
-        let end = first(rest, b'\n');
-        let number = pairs.len().saturating_add(1);
-        pairs.push(read_line(heap, &rest[0..end], number)?)?;
-        place = place.saturating_add(end).saturating_add(1);
-    }
-    Ok(pairs)
+fn read_line<O: Value>(heap: Global, line: &[u8], number: usize) -> Result<Pair<O>, Fault> {
+    let line = line.strip_suffix(b"\n").unwrap_or(line);
+    let line = cut(line).ok_or(Fault::Line(number, Trouble::NoTab))?;
+    Ok(Pair {
+        key: line.key.to_vec(heap)?,
+        output: O::parse(line.field).map_err(|trouble| Fault::Line(number, trouble))?,
+    })
 }
 
 /// Whether a string is a key. The pairs ascend.
 pub fn holds<O>(pairs: &[Pair<O>], key: &[u8]) -> bool {
-    let mut low = 0;
-    let mut high = pairs.len();
-    while low < high {
-        let middle = low + (high - low) / 2;
-        match pairs[middle].key.as_slice().cmp(&key) {
-            Ordering::Less => low = middle + 1,
-            Ordering::Greater => high = middle,
-            Ordering::Equal => return true,
-        }
-    }
-    false
+    pairs
+        .binary_search_by(|pair| pair.key.as_slice().cmp(&key))
+        .is_ok()
 }

@@ -1,88 +1,67 @@
 //! What an image is asked: the keys in another order, and strings that are nearly keys.
-use crate::chance::{Chance, shuffled};
 use crate::fault::Fault;
-use crate::pairs::{Pair, holds};
+use crate::pairs::holds;
+use dice::Dice;
+use sheets::Pair;
 use std::alloc::{AllocError, Global};
 
 /// How often another byte is tried, where a changed key is a key too.
 const TRIES: usize = 64;
 
-/// Strings, one behind another, and where each ends.
-#[derive(Drop)]
-pub struct Questions {
-    bytes: Vec<u8>,
-    pub ends: Vec<usize>,
-}
+/// Dice for questions.
+pub type QuestionDice = Dice<0>;
 
-impl Questions {
-    fn new(heap: Global) -> Questions {
-        Questions {
-            bytes: Vec::new(heap),
-            ends: Vec::new(heap),
-        }
+/// The pairs in another order.
+fn shuffled<'a, O>(
+    heap: Global,
+    pairs: &'a [Pair<O>],
+    dice: &mut QuestionDice,
+) -> Result<Vec<&'a Pair<O>>, AllocError> {
+    let mut order: Vec<&Pair<O>> = pairs.iter().collect(heap)?;
+    for i in 0..order.len() {
+        let j = dice.below(i + 1);
+        order.swap(i, j);
     }
-
-    fn push(&mut self, string: &[u8]) -> Result<(), Fault> {
-        self.bytes.extend_from_slice(string)?;
-        self.ends.push(self.bytes.len())?;
-        Ok(())
-    }
-
-    /// The string between two ends.
-    pub fn between(&self, start: usize, end: usize) -> &[u8] {
-        let bytes = self.bytes.as_slice();
-        if start <= end && end <= bytes.len() {
-            &bytes[start..end]
-        } else {
-            bytes
-        }
-    }
+    Ok(order)
 }
 
 /// The keys in another order.
 pub fn keys_shuffled<O>(
     heap: Global,
     pairs: &[Pair<O>],
-    chance: &mut Chance,
-) -> Result<Questions, Fault> {
-    let mut questions = Questions::new(heap);
-    let order = shuffled(heap, pairs.len(), chance)?;
-    for i in order.iter() {
-        if let Some(pair) = pairs.get(*i) {
-            questions.push(pair.key.as_slice())?;
-        }
-    }
-    Ok(questions)
+    dice: &mut QuestionDice,
+) -> Result<Vec<Vec<u8>>, Fault> {
+    shuffled(heap, pairs, dice)?
+        .iter()
+        .map(|pair| -> Result<Vec<u8>, Fault> { Ok(pair.key.clone()?) })
+        .try_collect(heap)
 }
 
 /// For each key a string with one other byte that is no key, where some tries find one.
 pub fn near_misses<O>(
     heap: Global,
     pairs: &[Pair<O>],
-    chance: &mut Chance,
-) -> Result<Questions, Fault> {
-    let mut questions = Questions::new(heap);
-    let order = shuffled(heap, pairs.len(), chance)?;
-    for i in order.iter() {
-        if let Some(pair) = pairs.get(*i) {
-            let mut string = Vec::from_slice(heap, pair.key.as_slice())?;
-            if spoil(string.as_mut_slice(), pairs, chance) {
-                questions.push(string.as_slice())?;
-            }
+    dice: &mut QuestionDice,
+) -> Result<Vec<Vec<u8>>, Fault> {
+    let mut misses = Vec::new(heap);
+    for pair in shuffled(heap, pairs, dice)? {
+        let mut string = pair.key.clone()?;
+        if spoil(string.as_mut_slice(), pairs, dice) {
+            misses.push(string)?;
         }
     }
-    Ok(questions)
+    Ok(misses)
 }
 
 /// Changes one byte, such that the string is no key, and tells whether it did.
-fn spoil<O>(string: &mut [u8], pairs: &[Pair<O>], chance: &mut Chance) -> bool {
+fn spoil<O>(string: &mut [u8], pairs: &[Pair<O>], dice: &mut QuestionDice) -> bool {
     if string.is_empty() {
         return false;
     }
     for _ in 0..TRIES {
-        let place = chance.below(string.len());
+        let place = dice.below(string.len());
         let before = string[place];
-        string[place] = other_byte(chance);
+        string[place] = other_byte(dice);
         if !holds(pairs, string) {
             return true;
         }
@@ -92,6 +71,6 @@ fn spoil<O>(string: &mut [u8], pairs: &[Pair<O>], chance: &mut Chance) -> bool {
 }
 
 /// Some printable byte.
-fn other_byte(chance: &mut Chance) -> u8 {
-    33 + chance.below(94) as u8
+fn other_byte(dice: &mut QuestionDice) -> u8 {
+    33 + dice.below(94) as u8
 }

@@ -7,7 +7,7 @@ use sheets::decimal;
 use std::alloc::{AllocError, Global};
 
 /// An output that a sheet can hold.
-pub trait Value: Output + Clone {
+pub trait Value: Output {
     /// Reads what follows the TAB.
     fn parse(field: &[u8]) -> Result<Self, Trouble>;
 
@@ -17,28 +17,21 @@ pub trait Value: Output + Clone {
 
 impl Value for Number {
     fn parse(field: &[u8]) -> Result<Number, Trouble> {
-        match decimal(field) {
-            Some(value) => Ok(Number { value }),
-            None => Err(Trouble::NoNumber),
-        }
+        let value = decimal(field).ok_or(Trouble::NoNumber)?;
+        Ok(Number { value })
     }
 
     fn shown(&self, heap: Global) -> Result<Vec<u8>, AllocError> {
-        let value = self.value;
-        let text = format!(in heap; "{value}")?;
-        Vec::from_slice(heap, text.as_bytes())
+        Ok(self.value.to_string(heap)?.into_bytes())
     }
 }
 
 impl Value for Text {
     fn parse(field: &[u8]) -> Result<Text, Trouble> {
-        match Text::new(field) {
-            Ok(text) => Ok(text),
-            Err(refusal) => Err(Trouble::Refused(refusal.number())),
-        }
+        Ok(Text::new(field)?)
     }
 
     fn shown(&self, heap: Global) -> Result<Vec<u8>, AllocError> {
-        Vec::from_slice(heap, self.as_bytes())
+        self.as_bytes().to_vec(heap)
     }
 }

@@ -40,7 +40,11 @@ static CASES: [Case; 7] = [
         states: 9,
         arcs: 1,
         pairs: "a=1 ab=2 b=3",
-        answers: &[Ok(()), Err(AddRefusal::NoArcRoom), Err(AddRefusal::NoArcRoom)],
+        answers: &[
+            Ok(()),
+            Err(AddRefusal::NoArcRoom),
+            Err(AddRefusal::NoArcRoom),
+        ],
     },
     Case {
         states: 9,

@@ -60,8 +60,7 @@ fn print_made_up(
     }
     let longest = read_machine_image(heap, &chain(heap, 64)?, readings)?;
     let longer = read_machine_image(heap, &chain(heap, 65)?, readings)?;
-    let verdict =
-        tally.judge(longest.is_ok() && matches!(longer, Err(LoadRefusal::Target(_))));
+    let verdict = tally.judge(longest.is_ok() && matches!(longer, Err(LoadRefusal::Target(_))));
     let longest = printed(longest);
     let longer = printed(longer);
     println!(rt; "made up, a key of 64 bytes: {longest}, of 65 bytes: {longer} ({verdict})")?;

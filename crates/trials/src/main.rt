@@ -8,8 +8,8 @@ mod letters;
 mod saved;
 mod thrown;
 
-use built::print_built;
 use builder_trials::trial::Score;
+use built::print_built;
 use cases::print_cases;
 use damaged::print_damaged;
 use letters::print_letters;
