@@ -35,8 +35,5 @@ pub fn build<'a, V: Twin>(
 
 /// The number of a refusal, if an answer is one.
 pub fn number_of(answer: &Result<(), AddRefusal>) -> Option<u8> {
-    match answer {
-        Ok(()) => None,
-        Err(refusal) => Some(refusal.number()),
-    }
+    answer.as_ref().err().map(|refusal| refusal.number())
 }
