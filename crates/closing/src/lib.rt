@@ -41,6 +41,7 @@ pub fn settle_top<'a, O: Output>(core: &mut Core<'a, O>) -> u16
 }
 
 // The newest open record becomes the next state, which is entered in the register.
+// That the slots are the register of the closed states stands in clauses: it says where each state is entered, and a type keeps only facts without such data.
 pub fn keep_top<'a, O: Output>(core: &mut Core<'a, O>, slot: usize) -> u16
     requires top { 0 < openings core.old }
     requires missing { NoEqual O.Output.digested O.Output.meaning core.old slot }

@@ -1,6 +1,6 @@
 // The register of closed states: which one is equal to a given record, if any is. It is a table with open addressing over
-// lent slots: a slot holds the number of a state plus one, and 0 where it is free. A state is looked for from the slot
-// that its record leads to, its home, up to the end and on from slot 0.
+// lent slots: a slot holds the number of a state plus one, and 0 where it is free (16 bits are lent for each, and an Option
+// would take 32). A state is looked for from the slot that its record leads to, its home, up to the end and on from slot 0.
 #![tactic(auto)]
 
 ghost use Rattle.std.specs.Prelude.{◌≡◌, ℕ, ◌+◌, ◌<◌, ◌≤◌, true, false, length, slice_index, slice_set};
@@ -8,6 +8,7 @@ ghost use Rattle.register.specs.Slots.{Entered, Hole, used};
 ghost use Rattle.register.specs.Answers.{Among, Scanned, Told};
 
 // What is looked for, and the states that it is compared with.
+// A trait and no closure: `count`, `sound` and `equals` are what the register's clauses speak of, and a closure has no such members.
 pub trait Wanted {
     // How many states there are.
     ghost count: { Self → ℕ };

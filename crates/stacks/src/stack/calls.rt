@@ -4,6 +4,7 @@ ghost use Rattle.stacks.specs.Stacks.{lows, highs, capacity};
 
 use super::Stacks;
 
+// Each end has calls of its own, since it counts from its own side: an end as a parameter would leave two bodies behind each name.
 impl<'a, T: Copy> Stacks<'a, T> {
     // Both stacks are empty, whatever the cells hold.
     pub fn new(cells: &'a mut [T]) -> Stacks<'a, T>
