@@ -49,18 +49,3 @@ module _ (k : Kind) (p : ℕ) where
 module _ {I : Type 0} (x : I) (h : Held I) where
   pub rooted_first : h.open' ≡ [] → rooted x h ≡ record { closed = h.closed; open' = blank h.pairs ∷ []; start = x; pairs = h.pairs }
   rooted_first e = ap {B = Held I} (λ (os : List (Open I)). elim os [ [] ↦ record { closed = h.closed; open' = blank h.pairs ∷ []; start = x; pairs = h.pairs } | o ∷ more ↦ h ]) e
-
-  rooted_by : (os : List (Open I)) (r : Held I) → 0 < length os → elim os as (λ _. Held I) [ [] ↦ r | o ∷ more ↦ h ] ≡ h
-  rooted_by [] r n = absurd (omega arith)
-  rooted_by (o ∷ os) r n = refl
-
-  pub rooted_later : 0 < length h.open' → rooted x h ≡ h
-  rooted_later n = rooted_by h.open' (record { closed = h.closed; open' = blank h.pairs ∷ []; start = x; pairs = h.pairs }) n
-
-  pairs_by : (os : List (Open I)) (r : Held I) → r.pairs ≡ h.pairs → (elim os as (λ _. Held I) [ [] ↦ r | o ∷ more ↦ h ]).pairs ≡ h.pairs
-  pairs_by [] r e = e
-  pairs_by (o ∷ os) r e = refl
-
-  -- opening takes no pair
-  pub rooted_pairs : (rooted x h).pairs ≡ h.pairs
-  rooted_pairs = pairs_by h.open' (record { closed = h.closed; open' = blank h.pairs ∷ []; start = x; pairs = h.pairs }) refl

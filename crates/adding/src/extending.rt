@@ -9,6 +9,8 @@ use outputs::output::Output;
 use records::memory::Core;
 use records::record::{Arc, State};
 
+// That a record is open is asked of each call. It ends when records are closed, so a type that kept it would hold the memory, and each contract would say which one: no plainer.
+
 /// A new open record, without arcs.
 fn open_record<'a, O: Output>(core: &mut Core<'a, O>)
     requires led { Led (length (lows core.old.arcs)) (highs core.old.states) }

@@ -1,24 +1,14 @@
--- Ranges of a list under a function, as a loop goes through them, and what lies before, in and behind one. Assumes nothing.
-use Rattle.std.proofs.Common.{◌≡◌, ℕ, zero, suc, ◌+◌, ◌<◌, ◌≤◌, List, [], ◌∷◌, map, length, get_or, take, drop, set, sym, refl, ap, subst, add-one, arith}
+-- Ranges of a list under a function: where a part of a list was changed, and what lies before, in and behind one. Assumes nothing.
+use Rattle.std.proofs.Common.{◌≡◌, ℕ, zero, suc, ◌+◌, ◌≤◌, List, [], ◌∷◌, map, take, drop, sym, refl, ap, ◌∙◌, subst, arith}
+use Rattle.stacks.specs.Stacks.{Changed}
 use Rattle.pushing.specs.Altering.{alter_range}
 
 module _ {X : Type 0} (f : X → X) where
-  range_step : (es : List X) (i m : ℕ) (e : X) → i < m → i < length es → e ≡ get_or es i e → alter_range f (suc i) m (set es i (f e)) ≡ alter_range f i m es
-  range_step [] i m e o h q = absurd (omega arith)
-  range_step (x ∷ es) i zero e o h q = absurd (omega arith)
-  range_step (x ∷ es) zero (suc m) e o h q = ap (λ (y : X). f y ∷ alter_range f zero m es) q
-  range_step (x ∷ es) (suc i) (suc m) e o h q = ap (λ (r : List X). x ∷ r) (range_step es i m e (omega arith) (omega arith) q)
-
-  -- one element of the range is done
-  pub range_more : (es : List X) (i m : ℕ) (e : X) → i < m → i < length es → e ≡ get_or es i e → alter_range f (i + 1) m (set es i (f e)) ≡ alter_range f i m es
-  range_more es i m e o h q = rw add-one (range_step es i m e o h q)
-
   -- an empty range
-  pub range_none : (es : List X) (i m : ℕ) → m ≤ i → alter_range f i m es ≡ es
-  range_none [] i m h = refl
-  range_none (x ∷ es) i zero h = refl
-  range_none (x ∷ es) zero (suc m) h = absurd (omega arith)
-  range_none (x ∷ es) (suc i) (suc m) h = ap (λ (r : List X). x ∷ r) (range_none es i m (omega arith))
+  range_none : (i : ℕ) (es : List X) → alter_range f i 0 es ≡ es
+  range_none i [] = refl
+  range_none zero (x ∷ es) = refl
+  range_none (suc i) (x ∷ es) = refl
 
   in_front : (c : ℕ) (es : List X) → take c (alter_range f zero c es) ≡ map f (take c es)
   in_front zero [] = refl
@@ -57,3 +47,13 @@ module _ {X : Type 0} (f : X → X) where
   range_before p zero (suc s) c (e ∷ es) h = refl
   range_before zero (suc q) (suc s) c (e ∷ es) h = absurd (omega arith)
   range_before (suc p) (suc q) (suc s) c (e ∷ es) h = range_before p q s c es (omega arith)
+
+-- a part of a list is changed, and seen by `see` each element of it is under f
+pub range_changed : {X Y : Type 0} (see : X → Y) (f : Y → Y) (R : X → X → Type 0) → ((x y : X) → R x y → see y ≡ f (see x)) → (from to : ℕ) (xs ys : List X) → Changed R from to xs ys → map see ys ≡ alter_range f from to (map see xs)
+range_changed see f R e from to [] [] c = refl
+range_changed see f R e from to [] (y ∷ ys) c = absurd c
+range_changed see f R e from to (x ∷ xs) [] c = absurd c
+range_changed see f R e zero zero (x ∷ xs) (y ∷ ys) c = let r = range_changed see f R e zero zero xs ys c.1 in λ i. see (sym c.0 i) ∷ (r ∙ range_none f zero (map see xs)) i
+range_changed see f R e zero (suc to) (x ∷ xs) (y ∷ ys) c = let h = e x y c.0 in let r = range_changed see f R e zero to xs ys c.1 in λ i. h i ∷ r i
+range_changed see f R e (suc from) zero (x ∷ xs) (y ∷ ys) c = let r = range_changed see f R e from zero xs ys c.1 in λ i. see (sym c.0 i) ∷ (r ∙ range_none f from (map see xs)) i
+range_changed see f R e (suc from) (suc to) (x ∷ xs) (y ∷ ys) c = let r = range_changed see f R e from to xs ys c.1 in λ i. see (sym c.0 i) ∷ r i

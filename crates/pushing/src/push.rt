@@ -18,11 +18,11 @@ fn push_arcs<'a, O: Output>(core: &mut Core<'a, O>, from: usize, to: usize, fron
     requires order { from ≤ to }
     ensures { ArcsUnder O.Output.meaning (join_or_empty O.Output.kind (O.Output.meaning front)) from to core.old core.new }
 {
-    for i in from..to {
-        let arc = core.arcs.at_low(i);
-        let output = front.join(&arc.output);
-        core.arcs.set_low(i, Arc { output, ..arc });
-    }
+    let joined = |arc: Arc<O>| Arc {
+        output: front.join(&arc.output),
+        ..arc
+    };
+    core.arcs.change_low(from, to, joined);
 }
 
 /// A record with `front` joined in front of its end output, if it has one.

@@ -9,6 +9,8 @@ use outputs::output::Output;
 use records::memory::Core;
 use records::record::{Arc, State};
 
+// That a depth is one of an open record is asked of each call. A type that kept it would hold the memory too, and be made anew for each depth: no plainer.
+
 /// The open record at a depth.
 pub fn record<'a, O: Output>(core: &Core<'a, O>, depth: usize) -> State<O>
     requires { depth < openings core.now }

@@ -1,1 +1,2 @@
 pub mod TwoEnds
+pub mod Changing

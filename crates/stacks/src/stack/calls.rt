@@ -1,6 +1,6 @@
 // The calls on facing stacks: each says what both stacks hold afterwards.
 ghost use Rattle.std.specs.Prelude.{◌≡◌, ◌+◌, ◌-◌, ◌<◌, ◌≤◌, [], ◌∷◌, ◌++◌, length, take, drop, slice_index_or, slice_set};
-ghost use Rattle.stacks.specs.Stacks.{lows, highs, capacity};
+ghost use Rattle.stacks.specs.Stacks.{lows, highs, capacity, Changed};
 
 use super::Stacks;
 
@@ -78,6 +78,20 @@ impl<'a, T: Copy> Stacks<'a, T> {
         ensures capacity { capacity self.new ≡ capacity self.old }
     {
         self.cells[i] = x;
+    }
+
+    // Changes those of the low stack from one place up to another, each by itself.
+    pub fn change_low<F: Fn(T) -> T>(&mut self, from: usize, to: usize, change: F)
+        requires order { from ≤ to }
+        requires fits { to ≤ length (lows self.old) }
+        requires callable { F.IsAlwaysCallable change }
+        ensures lows { Changed (λ x y. F.post change x y) from to (lows self.old) (lows self.new) }
+        ensures highs { highs self.new ≡ highs self.old }
+        ensures capacity { capacity self.new ≡ capacity self.old }
+    {
+        for x in self.cells[from..to].iter_mut() {
+            *x = change(*x);
+        }
     }
 
     // Puts a value on the low stack, into a free cell.
