@@ -1,5 +1,5 @@
 //! A store over lent memory.
-ghost use Rattle.std.specs.Prelude.{cond, ◌≡◌, ◌+◌, ◌<◌, ◌≤◌, length, take, if◌then◌else◌, slice_index, slice_set, Ok, Err};
+ghost use Rattle.std.specs.Prelude.{cond, ◌≡◌, ◌+◌, ◌/◌, ◌<◌, ◌≤◌, length, take, if◌then◌else◌, slice_index, slice_set, Ok, Err};
 ghost use Rattle.stores.specs.Refusals.{Checked};
 ghost use Rattle.stores.specs.Reads.{At};
 ghost use Rattle.stores.specs.Appends.{Appended, Wrote};
@@ -59,11 +59,20 @@ impl<'a, C: Cell> LentStore<'a, C> {
         }
     }
 
+    /// The number of the cell that holds a byte.
+    fn cell(&self, i: usize) -> usize
+        requires { i < length (C.all self.now.memory.now) }
+        ensures place { result ≡ i / C.SIZE }
+        ensures there { result < length self.now.memory.now }
+    {
+        i / C::SIZE
+    }
+
     fn byte(&self, i: usize) -> u8
         requires { i < self.now.used }
         ensures { result ≡ slice_index (C.all self.now.memory.now) i }
     {
-        self.memory[i / C::SIZE].byte(i % C::SIZE)
+        self.memory[self.cell(i)].byte(i % C::SIZE)
     }
 
     /// Puts a byte behind the last one.
@@ -74,8 +83,9 @@ impl<'a, C: Cell> LentStore<'a, C> {
         ensures capacity { self.new.capacity ≡ self.old.capacity }
         ensures same { self.new.memory.ghost_name ≡ self.old.memory.ghost_name }
     {
-        let place = self.used / C::SIZE;
-        self.memory[place] = self.memory[place].with_byte(self.used % C::SIZE, byte);
+        let used = self.used;
+        let place = self.cell(used);
+        self.memory[place] = self.memory[place].with_byte(used % C::SIZE, byte);
         self.used += 1;
     }
 }
