@@ -15,6 +15,8 @@ use crate::{Refusal, Store};
 const LIMIT: usize = 16_777_216;
 
 /// A store over lent cells: its bytes are those of the cells in turn.
+///
+/// A slice with two counts beside it, since the memory is its owner's: there is no heap for a `Vec`.
 #[derive(Drop)]
 pub struct LentStore<'a, C: Cell> {
     memory: &'a mut [C],
