@@ -7,5 +7,4 @@ pub fn bits_go_there_and_back()
     ensures there { (width n : ℕ) → n < 2 ^ width → value (bits width n) ≡ n }
     ensures back { (row : List Bool) → bits (length row) (value row) ≡ row }
     ensures long { (width n : ℕ) → length (bits width n) ≡ width }
-{
-}
+{}

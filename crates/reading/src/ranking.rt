@@ -88,5 +88,4 @@ pub fn rank<O: Output, S: Store>(loaded: &Loaded<O, S>, key: &[u8]) -> Option<u3
 /// Of the minimal machine of some pairs, rank is the number of pairs with a lower key.
 pub fn ranks_stand<O: Output>()
     ensures { (P : Pairs O.Output.kind.Ideal) → Proper O.Output.kind P → (w : Key) → rank_in (minimal O.Output.kind P) (counts_of (minimal O.Output.kind P).states) w ≡ rank_of P w }
-{
-}
+{}
