@@ -20,7 +20,7 @@ pub fn record<'a, O: Output>(core: &Core<'a, O>, depth: usize) -> State<O>
 }
 
 /// Where the arc lies that leads on from the open record at a depth: its last.
-pub fn last_place<'a, O: Output>(core: &Core<'a, O>, depth: usize) -> usize
+pub(crate) fn last_place<'a, O: Output>(core: &Core<'a, O>, depth: usize) -> usize
     requires { depth + 1 < openings core.now }
     ensures { LastPlace core.now depth result }
 {
