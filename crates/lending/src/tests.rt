@@ -12,7 +12,7 @@ fn taken(lent: &mut Lent<Number>) -> usize {
 
 #[test]
 fn memory_is_lent_again_and_again(rt: HostRuntime) -> Result<(), Fail> {
-    let mut lent = Lent::<Number>::new(rt.alloc(), 2, 2, 2)?;
+    let mut lent = Lent::<Number>::new(rt.alloc(), 3, 2, 3)?;
     assert_eq!(rt; taken(&mut lent), 2);
     assert_eq!(rt; taken(&mut lent), 2);
     Ok(())
@@ -20,7 +20,7 @@ fn memory_is_lent_again_and_again(rt: HostRuntime) -> Result<(), Fail> {
 
 #[test]
 fn no_more_is_taken_than_there_is_room_for(rt: HostRuntime) -> Result<(), Fail> {
-    let mut lent = Lent::<Number>::new(rt.alloc(), 2, 1, 2)?;
+    let mut lent = Lent::<Number>::new(rt.alloc(), 3, 1, 3)?;
     assert_eq!(rt; taken(&mut lent), 1);
     Ok(())
 }

@@ -54,5 +54,5 @@ pub fn open_image<'a, O: Output, S: Store>(
     store: &'a S,
     working: &mut [u8],
 ) -> Result<Loaded<O, &'a S>, Fault> {
-    Ok(load::<O, &'a S>(store, working)?)
+    load::<O, &'a S>(store, working).map_err(Fault::Load)
 }

@@ -82,22 +82,13 @@ fn print_counts<'a>(
     Ok(())
 }
 
-// Adds the strings in turn, and counts those that are taken. This walk stands twice: one with a closure was tried, but a closure that adds to a builder got no proof.
+// Adds the strings in turn, and counts those that are taken.
 fn add_strings<'a>(
     heap: Global,
     strings: &Strings,
     builder: &mut Builder<'a, Number>,
 ) -> Result<usize, Fault> {
-    let mut taken: usize = 0;
-    let mut key: Vec<u8> = Vec::new(heap);
-    for _ in 0..strings.count {
-        let value = count_b(key.as_slice());
-        if builder.add(key.as_slice(), Number { value }).is_ok() {
-            taken = taken.saturating_add(1);
-        }
-        advance(&mut key, strings.longest)?;
-    }
-    Ok(taken)
+    strings.count_where(heap, |key, number| builder.add(key, number).is_ok())
 }
 
 // How many strings are answered with the number of their b.
@@ -107,16 +98,29 @@ fn right_answers<'a>(
     sealed: &Sealed<'a, Number>,
 ) -> Result<usize, Fault> {
     let rows = rows_of(sealed);
-    let mut right: usize = 0;
-    let mut key: Vec<u8> = Vec::new(heap);
-    for _ in 0..strings.count {
-        let value = count_b(key.as_slice());
-        if answer(&rows, key.as_slice()) == Some(Number { value }) {
-            right = right.saturating_add(1);
+    strings.count_where(heap, |key, number| answer(&rows, key) == Some(number))
+}
+
+impl Strings {
+    // For how many strings a test holds, which is given each in turn with the number of its b.
+    fn count_where<F: FnMut(&[u8], Number) -> bool>(
+        &self,
+        heap: Global,
+        mut test: F,
+    ) -> Result<usize, Fault>
+        requires { F.IsAlwaysCallable test }
+    {
+        let mut count: usize = 0;
+        let mut key: Vec<u8> = Vec::new(heap);
+        for _ in 0..self.count {
+            let value = count_b(key.as_slice());
+            if test(key.as_slice(), Number { value }) {
+                count = count.saturating_add(1);
+            }
+            advance(&mut key, self.longest)?;
         }
-        advance(&mut key, strings.longest)?;
+        Ok(count)
     }
-    Ok(right)
 }
 
 fn count_b(key: &[u8]) -> u32 {
