@@ -49,6 +49,7 @@ pub enum Trouble {
     Pair(#[from] AddRefusal),
 }
 
+// The words are this program's, so they stand here: a Display could only stand in the crates of the refusals.
 fn text_words(refusal: TextRefusal) -> &'static str {
     match refusal {
         TextRefusal::TooLong => "the text has more than 24 bytes",
