@@ -18,7 +18,7 @@ pub enum AddRefusal {
 }
 
 impl AddRefusal {
-    /// The number by which a caller knows it.
+    /// The number by which a caller knows it; the numbers are the format's, and this call is promised by its name.
     pub fn number(self) -> u8
         ensures { result ≡ refusal_number self }
     {

@@ -25,6 +25,7 @@ pub fn check(states: usize, arcs: usize, slots: usize) -> Result<(), MemoryRefus
 pub fn usable(states: usize, arcs: usize, slots: usize) -> usize
     ensures { result ≡ allowed states arcs slots }
 {
+    // A match: with `map_or` the goal stayed open.
     match check(states, arcs, slots) {
         Ok(()) => states,
         Err(_) => 0,

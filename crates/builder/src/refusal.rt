@@ -14,7 +14,7 @@ pub enum MemoryRefusal {
 }
 
 impl MemoryRefusal {
-    /// The number by which a caller knows it.
+    /// The number by which a caller knows it; the numbers are the format's, and this call is promised by its name.
     pub fn number(self) -> u8
         ensures { result ≡ memory_number self }
     {
@@ -34,7 +34,7 @@ pub enum SealRefusal {
 }
 
 impl SealRefusal {
-    /// The number by which a caller knows it.
+    /// The number by which a caller knows it; the numbers are the format's, and this call is promised by its name.
     pub fn number(self) -> u8
         ensures { result ≡ seal_number self }
     {

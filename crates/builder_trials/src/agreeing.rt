@@ -54,7 +54,7 @@ fn same_arc<V: Twin>(plain: &PlainArc<V>, arc: &Arc<V::Proved>) -> bool {
         && plain.output.means(&arc.output)
 }
 
-/// The arcs of a closed state, whose place is counted from the end of the arc list; none where the list has not so many.
+/// The arcs of a closed state, whose place is counted from the end of the arc list; none where the list has not so many, since a trial takes nothing on trust.
 fn arcs_of<'b, O: Output>(state: &State<O>, arcs: &'b [Arc<O>]) -> &'b [Arc<O>] {
     let first = arcs.len().saturating_sub(state.first as usize);
     let end = first.saturating_add(state.count as usize);

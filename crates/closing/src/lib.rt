@@ -16,6 +16,7 @@ use records::record::{Arc, State};
 use register::enter;
 
 // The newest open record is let go with its arcs: a closed state is equal to it.
+// That a record is open is asked where it is: a type that kept it would have to be made anew after each call.
 pub fn drop_top<'a, O: Output>(core: &mut Core<'a, O>)
     requires { 0 < openings core.old }
     ensures popped { Popped core.old core.new }

@@ -3,15 +3,18 @@
 
 ghost use Rattle.std.specs.Prelude.{◌≡◌, ◌<◌};
 
-/// A shift register of 64 bits that is never zero. Its throws leave out the lowest bits, so many as `SKIPPED` says.
+/// A shift register of 64 bits. Its throws leave out the lowest bits, so many as `SKIPPED` says.
 #[derive(Clone, Copy)]
 pub struct Dice<const SKIPPED: u32> {
     state: u64,
 }
 
 impl<const SKIPPED: u32> Dice<SKIPPED> {
-    pub fn new(seed: u64) -> Dice<SKIPPED> {
-        Dice { state: seed | 1 }
+    /// Of the seed 0 every throw is 0.
+    pub fn new(seed: u64) -> Dice<SKIPPED>
+        ensures { result.state ≡ seed }
+    {
+        Dice { state: seed }
     }
 
     fn step(&mut self) -> u64 {

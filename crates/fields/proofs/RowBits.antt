@@ -3,21 +3,17 @@ use Rattle.std.proofs.Common.{◌≡◌, ℕ, zero, suc, ◌+◌, ◌-◌, ◌*�
 use Rattle.std.proofs.lemmas.List.{append-nil, take_at, drop_at}
 use Rattle.std.proofs.lemmas.Nat.{pow_pos, shr-shr, shr_high, mod_low, field_of, mod-pow-add, mod_below}
 use Rattle.outputs.specs.Bits.{bits, value}
-use Rattle.outputs.specs.BitRows.{bits_before_append, length_bits, value_bits}
+use Rattle.outputs.specs.BitRows.{bits_before_append, length_bits, no_bits, value_bits}
 
 -- one bit more at the low end
 bits_suc : (n v : ℕ) → bits (suc n) v ≡ bits n (v / 2) ++ eqb (v % 2) 1 ∷ []
 unfolding bits
 bits_suc n v = bits_before_append n (v / 2) [] (eqb (v % 2) 1 ∷ [])
 
-bits_none : (v : ℕ) → bits 0 v ≡ []
-unfolding bits
-bits_none v = refl
-
 pub bits_parts : (m n v : ℕ) → bits (m + n) v ≡ bits m (v / 2 ^ n) ++ bits n v
 bits_parts m zero v =
     let e : v / 1 ≡ v = omega arith in
-    ap (λ (z : ℕ). bits z v) (add-zero m) ∙ sym (append-nil (bits m v)) ∙ ap (λ (z : List Bool). bits m v ++ z) (sym (bits_none v)) ∙ ap (λ (z : ℕ). bits m z ++ bits 0 v) (sym e)
+    ap (λ (z : ℕ). bits z v) (add-zero m) ∙ sym (append-nil (bits m v)) ∙ ap (λ (z : List Bool). bits m v ++ z) (sym (no_bits v)) ∙ ap (λ (z : ℕ). bits m z ++ bits 0 v) (sym e)
 bits_parts m (suc n) v =
     let low : List Bool = eqb (v % 2) 1 ∷ [] in
     let s : suc n ≡ 1 + n = omega arith in

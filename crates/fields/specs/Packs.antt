@@ -13,7 +13,7 @@ Outcome = Result (Unit {0}) Refusal
 abbrev pub over : ℕ → List ℕ → Outcome
 over room bytes = cond (nat_lt room (length bytes)) (Err Full) (Ok tt)
 
--- a store is given a row of bytes: nothing if it outcome before, and else what there is room for
+-- a store is given a row of bytes: nothing if it refused before, and else what there is room for
 abbrev pub Gave : ℕ → List ℕ → Outcome → List ℕ → List ℕ → Outcome → Type 0
 Gave room bytes (Err refusal) row bytes' outcome' = (bytes' ≡ bytes) × (outcome' ≡ Err refusal)
 Gave room bytes (Ok _) row bytes' outcome' = (bytes' ≡ take room (bytes ++ row)) × (outcome' ≡ over room (bytes ++ row))

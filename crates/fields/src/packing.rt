@@ -14,7 +14,7 @@ use stores::{Refusal, Store};
 #[derive(Drop)]
 pub struct Packer<S> {
     store: S,
-    /// The bits that wait for the rest of their byte are the lowest of this, `filled % 8` of them.
+    /// The bits that wait for the rest of their byte (fewer than eight, and no heap) are the lowest of this, `filled % 8` of them.
     partial: u8,
     filled: usize,
     /// The first refusal of the store, if there was one.

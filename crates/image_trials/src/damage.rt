@@ -46,7 +46,7 @@ pub fn number_of(answer: Result<(), LoadRefusal>) -> Option<u8> {
     answer.err().map(|refusal| refusal.number())
 }
 
-/// Reads the first bytes of an image, by load and plainly, and gives what load answers.
+/// Reads the first bytes of an image, as many as `used` says, by load and plainly, and gives what load answers. A store takes its memory and how much of it is used, so both come here.
 pub fn read_both<V: Twin>(
     heap: Global,
     bytes: &mut [u8],

@@ -39,16 +39,16 @@ fn saves_well<'a, O: Output, S: Store>(
     let Ok(saved) = save_sealed(sealed, store) else {
         return Ok(false);
     };
-    let well = is_at(saved, used, image.len())
+    let at_end = Saved {
+        place: used,
+        length: image.len(),
+    };
+    let well = saved == at_end
         && store.count() == used.saturating_add(image.len())
         && is_other(store, used)
         && holds(store, used, image);
     let states = sealed.counts().states;
     Ok(well && loads_back::<O, S>(heap, &*store, saved.place, states)?)
-}
-
-fn is_at(saved: Saved, place: usize, length: usize) -> bool {
-    saved.place == place && saved.length == length
 }
 
 /// Whether a store's first bytes are as they were.

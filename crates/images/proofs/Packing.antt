@@ -4,7 +4,7 @@ use native.Mathlib.Nat.{pow-succ'}
 use lib.ListN.{length-replicate}
 use borrow.Author.Tests.{eqb-false}
 use Rattle.outputs.specs.Bits.{bits, bits_before, bit, spread, filling, bytes_from, packed}
-use Rattle.outputs.specs.BitRows.{bits_before_append}
+use Rattle.outputs.specs.BitRows.{bits_before_append, no_bits}
 use Rattle.outputs.specs.TextLaws.{length_spread}
 
 -- one more bit behind those of a number
@@ -37,10 +37,6 @@ padded w (suc j) x =
 
     doubled : (a b c : ℕ) → c ≡ 2 * b → a * c ≡ 2 * (a * b) + bit false
     doubled a b c e = ap (λ n. a * n) e ∙ mul_two a b ∙ sym (add-zero (2 * (a * b)))
-
-no_bits : (x : ℕ) → bits 0 x ≡ []
-unfolding bits
-no_bits x = refl
 
 -- the bits of 0
 pub zero_bits : (w : ℕ) → bits w 0 ≡ replicate w false

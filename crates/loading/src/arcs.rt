@@ -72,6 +72,7 @@ pub fn read_arcs<O: Output, S: Store>(
     ensures answers { Answers (RowRead O.Output.kind (spread (S.Store.bytes store.now)) index state count working.old working.new) (arcs_step O.Output.kind (spread (S.Store.bytes store.now)) state count 0 [] place) result }
     ensures within { IfOk result (λ v. (v.0 ≤ 1048575 * count) × (v.1 ≤ length (spread (S.Store.bytes store.now)))) }
 {
+    // So many codes of unknown length: there is nothing to go over but their number.
     let mut here = place;
     let mut least = 0;
     let mut keys = 0;

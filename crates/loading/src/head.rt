@@ -77,6 +77,7 @@ pub fn pass_entries<O: Output, S: Store>(
     ensures passes { Passes (entries O.Output.kind (spread (S.Store.bytes store.now)) states index) result }
     ensures within { IfOk result (λ p. (p ≡ index + 32 * states) × (p ≤ length (spread (S.Store.bytes store.now)))) }
 {
+    // Each entry is a field of its own, of which the first that is cut is told.
     let mut place = index;
     for _ in 0..states {
         let (_, behind) = read_field(store, place, 32)?;

@@ -1,6 +1,7 @@
 //! The smallest steps of load: a field, an output, and what stands where the index says.
 //!
 //! A store and the place of its index are passed side by side: each clause names both, and through a struct of them it would only be longer.
+//! A place is passed and the one behind it given, so that a refusal leaves no state behind that a clause would have to tell.
 ghost use Rattle.std.specs.Prelude.{◌≡◌, ◌+◌, ◌*◌, ◌^◌, ◌<◌, ◌≤◌, length, IfOk};
 ghost use Rattle.outputs.specs.Bits.{spread};
 ghost use Rattle.images.specs.Steps.{field as field_step, output as output_step};
@@ -29,6 +30,7 @@ pub fn read_field<S: Store>(
     Ok((value, place + width))
 }
 
+// No `From`: it needs the place, which the source of bits does not have.
 fn unread(place: usize, unread: Unread<Refusal>) -> LoadRefusal
     ensures { result ≡ unread_at place unread }
 {

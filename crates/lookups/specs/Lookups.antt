@@ -16,11 +16,6 @@ use Rattle.lookups.specs.Standing.{EndStands, RowStands}
 abbrev pub bits_of : {O S : Type 0} → (S → List ℕ) → Loaded O S → List Bool
 bits_of bytes loaded = spread (bytes loaded.store)
 
--- what a value that may be absent means
-abbrev pub meant : {O A : Type 0} → (O → A) → Maybe O → Option A
-meant meaning None = none
-meant meaning (Some x) = some (meaning x)
-
 -- the output that was read, and the place behind it
 abbrev pub OutputRead : {O : Type 0} (k : Kind) → (O → k.Ideal) → ℕ → k.Ideal → Maybe (O × ℕ) → Type 0
 OutputRead k meaning p x None = ⊥

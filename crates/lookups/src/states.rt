@@ -1,10 +1,11 @@
 //! States of a loaded image, through its index.
 ghost use Rattle.std.specs.Prelude.{◌≡◌, ◌^◌, ◌<◌, slice_index};
+ghost use Rattle.outputs.specs.Meanings.{meant};
 ghost use Rattle.machines.specs.Lists.{at};
 ghost use Rattle.machines.specs.Machines.{State, Machine};
 ghost use Rattle.machines.specs.Counts.{counts_of};
 ghost use Rattle.loading.specs.Loading.{Holds};
-ghost use Rattle.lookups.specs.Lookups.{bits_of, meant, Opens, OpenedAs, RowOf};
+ghost use Rattle.lookups.specs.Lookups.{bits_of, Opens, OpenedAs, RowOf};
 
 use crate::outputs_at::{behind_output, output_at};
 use crate::rows::Row;

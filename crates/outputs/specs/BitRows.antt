@@ -19,6 +19,10 @@ pub length_bits : (w n : ℕ) → length (bits w n) ≡ w
 unfolding bits
 length_bits w n = length_bits_before w n [] ∙ add-zero w
 
+pub no_bits : (x : ℕ) → bits 0 x ≡ []
+unfolding bits
+no_bits x = refl
+
 -- the lowest bit
 odd_bit : (n : ℕ) → 2 * (n / 2) + bit (n % 2 == 1) ≡ n
 odd_bit n = go (n % 2 == 1) refl

@@ -17,13 +17,14 @@ pub trait Output: Copy {
     // A number for each output, by which equal outputs are found quickly.
     ghost digested: { kind.Ideal → ℕ };
 
-    // The number by which an image names the kind.
+    // The number by which an image names the kind: it is the format's, so no enum of kinds stands here.
     fn kind_number() -> u8
         ensures { result ≡ kind.number };
 
     fn empty() -> Self
         ensures { meaning result ≡ kind.empty };
 
+    // Equality of what values stand for, which need not be that of their fields.
     fn same(&self, other: &Self) -> bool
         ensures { Tells (meaning self.now) (meaning other.now) result };
 

@@ -33,7 +33,7 @@ fn sum_lower<O: Output, S: Store>(
 ) -> Option<Lower>
     ensures { (m : Machine O.Output.kind.Ideal) → Holds O.Output.kind O.Output.meaning S.Store.bytes loaded.now m → (arcs : List (Edge O.Output.kind.Ideal)) → Rising arcs → RowOf O.Output.kind (bits_of S.Store.bytes loaded.now) row arcs → before + sum_at (counts_of m.states) arcs < 2 ^ 20 → Lowered (arc_on byte arcs) (before + keys_below (counts_of m.states) byte arcs) result }
 {
-    // By places and not by `Arcs`: of the arc that is found no output is read.
+    // By places and not by `Arcs`: of the arc that is found no output is read. Not one loop with `seek`: it stops by other tests, and gathers keys.
     let mut place = row.place;
     let mut keys = before;
     for _ in 0..row.left {

@@ -11,7 +11,7 @@ pub enum SaveRefusal {
 }
 
 impl SaveRefusal {
-    /// The number by which the refusal is reported.
+    /// The number by which the refusal is reported; the numbers are the format's, and this call is promised by its name.
     pub fn number(&self) -> u8
         ensures { result ≡ numbered self.now }
     {

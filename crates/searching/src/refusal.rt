@@ -10,7 +10,7 @@ pub enum WhoRefusal {
 }
 
 impl WhoRefusal {
-    /// The number by which the refusal is reported.
+    /// The number by which the refusal is reported; the numbers are the format's, and this call is promised by its name.
     pub fn number(&self) -> u8
         ensures { result ≡ numbered self.now }
     {

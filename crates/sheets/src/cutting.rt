@@ -11,7 +11,7 @@ pub struct Line<'a> {
     pub field: &'a [u8],
 }
 
-/// The index of the first byte that equals `byte`, or the length where there is none.
+/// The index of the first byte that equals `byte`, or the length where there is none: what stands before it is wanted either way.
 pub fn first(bytes: &[u8], byte: u8) -> usize
     ensures within { result ≤ length bytes.now }
     ensures before { (k : ℕ) → k < result → slice_index bytes.now k ≢ byte }

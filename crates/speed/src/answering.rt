@@ -15,7 +15,7 @@ use stores::{ByteStore, Store};
 /// The byte of an image that has its kind's number.
 const KIND: usize = 2;
 
-/// Answers each line of standard input from the image in a file.
+/// Answers each line of standard input from the image in a file. An image of another kind is refused by load.
 pub fn answer(rt: &HostRuntime, path: &str) -> anyhow::Result<()> {
     let mut image = fs::read(rt, path)?;
     if image.get(KIND).copied() == Some(<Text as Output>::kind_number()) {

@@ -19,7 +19,7 @@ use stores::{ByteStore, Store};
 /// Where the numbers that look random begin.
 const SEED: u64 = 0x9E37_79B9_7F4A_7C15;
 
-/// What is done with a sheet.
+/// What is done with a sheet, as a command line asks for it.
 #[derive(Drop)]
 pub enum Task {
     /// Every key and every near miss is looked up.

@@ -18,6 +18,7 @@ fn shuffled<'a, O>(
     dice: &mut QuestionDice,
 ) -> Result<Vec<&'a Pair<O>>, AllocError> {
     let mut order: Vec<&Pair<O>> = pairs.iter().collect(heap)?;
+    // By places, since two of them are swapped.
     for i in 0..order.len() {
         let j = dice.below(i + 1);
         order.swap(i, j);

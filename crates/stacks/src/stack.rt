@@ -3,7 +3,7 @@ ghost use Rattle.std.specs.Prelude.{◌+◌, ◌≤◌, length};
 
 pub mod calls;
 
-// The low stack grows from the first cell up, the high stack from the last cell down. The cells between them are free.
+// They lie in lent memory, so the slice and two heights are all there is: no heap. The low stack grows from the first cell up, the high stack from the last cell down. The cells between them are free.
 #[derive(Drop)]
 pub struct Stacks<'a, T> {
     // The lent memory of both stacks.

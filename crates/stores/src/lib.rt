@@ -35,7 +35,7 @@ pub enum Refusal {
 }
 
 impl Refusal {
-    /// The number by which the refusal is reported.
+    /// The number by which the refusal is reported; the numbers are the format's, and this call is promised by its name.
     pub fn number(&self) -> u8
         ensures { result ≡ numbered self.now }
     {
@@ -63,6 +63,7 @@ pub trait Store {
     ghost sound: { (s : Self) → Sound (bytes s) (room s) };
 
     /// The second store is the first after some appends, over the same memory.
+    /// That the room stays is a clause beside it, for those who rest on the room and not on the memory.
     ghost follows: { Self → Self → Type 0 };
 
     ghost chained: { Chained follows };

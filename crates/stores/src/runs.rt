@@ -4,7 +4,7 @@ ghost use Rattle.stores.specs.Runs.{answer, after, answers, after_all, Alike};
 
 use crate::{Refusal, Store};
 
-/// A call of a store.
+/// A call of a store, as data: the law over runs speaks of lists of calls.
 #[derive(Clone, Copy, PartialEq, Eq, Debug)]
 pub enum Call {
     Count,
