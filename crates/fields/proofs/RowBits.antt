@@ -24,7 +24,7 @@ bits_parts m (suc n) v =
 
 -- only the lowest bits count
 pub bits_low : (k n v : ℕ) → k ≤ n → bits k (v % 2 ^ n) ≡ bits k v
-bits_low zero n v h = bits_none (v % 2 ^ n) ∙ sym (bits_none v)
+bits_low zero n v h = no_bits (v % 2 ^ n) ∙ sym (no_bits v)
 bits_low (suc k) zero v h = absurd (omega arith)
 bits_low (suc k) (suc n) v h =
     let s : suc n ≡ n + 1 = omega arith in
