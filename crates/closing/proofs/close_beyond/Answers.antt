@@ -1,5 +1,4 @@
-use Rattle.std.proofs.Common.{◌≡◌, ℕ, ◌+◌, ◌<◌, List, ◌∷◌, reverse, length, sym, ap, ◌∙◌, subst, arith, rules}
-use Rattle.stacks.proofs.TwoEnds.{total}
+use Rattle.std.proofs.Common.{◌≡◌, ℕ, ◌+◌, ◌<◌, List, ◌∷◌, reverse, length, sym, ap, ◌∙◌, subst, arith}
 use Rattle.construction.specs.Records.{Closed}
 use Rattle.records.specs.Shape.{openings}
 use Rattle.records.specs.Holding.{closed, closed_states, opened, held}
@@ -8,12 +7,6 @@ use Rattle.records.proofs.Counting.{count_opened}
 use Rattle.closing.specs.Closing.{closed_beyond, aim_newest}
 use Rattle.closing.proofs.Ascending.{hold, beyond_step, beyond_none}
 use Rattle.closing.proofs.close_beyond.Goals as goal
-
-pub overflow_add-kept : goal.overflow_add-kept
-overflow_add-kept g c =
-    let s = c.args.core.now.states in
-    let t = total s.cells.now s.low s.high s.room in
-    let m : c.args.depth + 1 < 65537 = omega (arith, c.args.core.now.sound.few, c.requires) in search rules
 
 pub loop-preserved : goal.loop-preserved
 loop-preserved g c =

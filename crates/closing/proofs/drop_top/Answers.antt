@@ -3,8 +3,7 @@ use Rattle.stacks.specs.Stacks.{lows, highs}
 use Rattle.construction.specs.Records.{Open}
 use Rattle.records.specs.Lying.{Laid, Since}
 use Rattle.records.specs.Holding.{arcs_of, open_record}
-use Rattle.records.proofs.Laying.{led_laid}
-use Rattle.records.proofs.Moving.{moved, closed_still}
+use Rattle.records.proofs.Moving.{closed_still}
 use Rattle.closing.proofs.Popping.{left, led_left, opens_left}
 use Rattle.closing.proofs.drop_top.Goals as goal
 
@@ -38,15 +37,3 @@ returns g c =
         slots = refl;
       };
     }
-
-pub invariant_of-core : goal.invariant_of-core
-invariant_of-core g c =
-    let b = c.args.core.now in
-    let so = b.sound in
-    let p = c.pop_high-top.ensures in
-    let f = c.forget_low.ensures in
-    let top = c.pop_high-top.result in
-    let hs = highs c.pop_high-top.new.self in
-    let lain : Laid (length (lows b.arcs)) (top ∷ hs) = subst (Laid (length (lows b.arcs))) p.highs so.laid in
-    let sin : Since b.pairs (top ∷ hs) = subst (Since b.pairs) p.highs so.since in
-    record { sound = moved b c.pop_high-top.new.self c.forget_low.new.self b.slots.now refl p.lows f.highs p.capacity f.capacity (led_laid _ hs (led_left (lows b.arcs) top hs lain _ f.lows)) sin.1 so.paired }

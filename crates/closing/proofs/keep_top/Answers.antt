@@ -1,7 +1,6 @@
 use Rattle.std.proofs.Common.{◌≡◌, ℕ, ◌+◌, List, [], ◌∷◌, ◌++◌, length, get_or, set, sym, ap, ◌∙◌, subst, arith, length-set}
 use Rattle.std.proofs.lemmas.List.{length_push}
 use Rattle.stacks.specs.Stacks.{lows, highs}
-use Rattle.stacks.proofs.TwoEnds.{total}
 use Rattle.machines.specs.Machines.{State as Node}
 use Rattle.construction.specs.Records.{Closed, state_of}
 use Rattle.register.specs.Slots.{used, Entered, Hole}
@@ -16,18 +15,6 @@ use Rattle.records.proofs.Storing.{stored_closed}
 use Rattle.closing.proofs.Finding.{stored_top, number_missing}
 use Rattle.closing.proofs.Entering.{register_more, other, enter_new}
 use Rattle.closing.proofs.keep_top.Goals as goal
-
-pub enter-requires : goal.enter-requires
-enter-requires g c =
-    let b = c.args.core.now in
-    let s = c.settle_top-number.ensures.settled in
-    let hole = c.requires.missing.hole in
-    let t = total b.states.cells.now b.states.low b.states.high b.states.room in
-    record {
-      within = omega (arith, hole.within, ap length s.slots);
-      free = ap (λ (ts : List ℕ). get_or ts c.args.slot 0) s.slots ∙ hole.free;
-      fits = omega (arith, s.next, b.sound.few, c.requires.top);
-    }
 
 pub returns : goal.returns
 returns g c =

@@ -2,21 +2,12 @@ use Rattle.std.proofs.Common.{◌≡◌, ℕ, ◌-◌, ◌<◌, List, map, lengt
 use Rattle.std.proofs.lemmas.List.{map-set, length-map, length-set, get_or-map}
 use Rattle.stacks.specs.Stacks.{lows, highs}
 use Rattle.machines.specs.Machines.{Arc as Edge}
-use Rattle.records.specs.Lying.{Led, Laid}
+use Rattle.records.specs.Lying.{Led}
 use Rattle.records.specs.Holding.{arc_of, arcs_of, open_record}
 use Rattle.records.proofs.Laying.{led_some}
-use Rattle.records.proofs.Moving.{moved, closed_still}
+use Rattle.records.proofs.Moving.{closed_still}
 use Rattle.closing.proofs.Aiming.{aimed, opens_aimed}
 use Rattle.closing.proofs.lead_to.Goals as goal
-
-pub overflow_sub-last : goal.overflow_sub-last
-overflow_sub-last g c = let b = c.args.core.now in omega (arith, led_some _ (highs b.states) c.requires.top c.requires.led, c.lows-last.ensures)
-
-pub at_low-arc-requires : goal.at_low-arc-requires
-at_low-arc-requires g c = let b = c.args.core.now in omega (arith, led_some _ (highs b.states) c.requires.top c.requires.led, c.lows-last.ensures)
-
-pub set_low-requires : goal.set_low-requires
-set_low-requires g c = let b = c.args.core.now in omega (arith, led_some _ (highs b.states) c.requires.top c.requires.led, c.lows-last.ensures)
 
 pub returns : goal.returns
 returns g c =
@@ -46,12 +37,3 @@ returns g c =
       pairs = refl;
       start = refl;
     }
-
-pub invariant_of-core : goal.invariant_of-core
-invariant_of-core g c =
-    let b = c.args.core.now in
-    let so = b.sound in
-    let s = c.set_low.ensures in
-    let a = c.set_low.new.self in
-    let l : length (lows a) ≡ length (lows b.arcs) = ap length s.lows ∙ length-set (lows b.arcs) (c.lows-last.result - 1) _ in
-    record { sound = moved b b.states a b.slots.now refl refl s.highs refl s.capacity (subst (λ (m : ℕ). Laid m (highs b.states)) (sym l) so.laid) so.since so.paired }

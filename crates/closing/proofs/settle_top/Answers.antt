@@ -1,7 +1,6 @@
-use Rattle.std.proofs.Common.{◌≡◌, ◌+◌, ◌-◌, ◌<◌, List, [], ◌∷◌, ◌++◌, map, length, sym, refl, ap, ◌∙◌, subst, arith, rules}
+use Rattle.std.proofs.Common.{◌≡◌, ◌+◌, ◌-◌, List, [], ◌∷◌, ◌++◌, map, length, sym, refl, ap, ◌∙◌, subst, arith}
 use Rattle.std.proofs.lemmas.List.{length_push}
 use Rattle.stacks.specs.Stacks.{lows, highs}
-use Rattle.stacks.proofs.TwoEnds.{total}
 use Rattle.construction.specs.Records.{Open}
 use Rattle.records.specs.declared.record.State.{State}
 use Rattle.records.specs.Lying.{Laid, Led, Since, Packed, Placed}
@@ -9,23 +8,6 @@ use Rattle.records.specs.Holding.{arcs_of, open_record, closed_state, counts}
 use Rattle.records.proofs.Laying.{led_laid, packed_placed, packed_push}
 use Rattle.closing.proofs.Popping.{left, led_left, opens_left, longer, states_after, counts_after}
 use Rattle.closing.proofs.settle_top.Goals as goal
-
-pub overflow_cast-first : goal.overflow_cast-first
-overflow_cast-first g c =
-    let a = c.settle_all.new.self in
-    let e = c.settle_all.ensures in
-    let t = total a.cells.now a.low a.high a.room in
-    let m : c.highs-first.result < 131072 = omega (arith, c.highs-first.ensures, e.capacity, c.args.core.now.sound.arcfew) in
-    search rules
-
-pub push_low-requires : goal.push_low-requires
-push_low-requires g c =
-    let s = c.args.core.now.states in
-    let e = c.pop_high-top.ensures in
-    let t = total s.cells.now s.low s.high s.room in
-    let h = ap length e.highs in
-    let l = ap length e.lows in
-    omega (arith, e.capacity)
 
 pub returns : goal.returns
 returns g c =

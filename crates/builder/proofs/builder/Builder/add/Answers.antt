@@ -22,9 +22,3 @@ returns g c =
       unchanged = refused_unchanged k laws mean digested key x before after c.add.result e.adds;
       octets = octets;
     }
-
-pub add-requires : goal.add-requires
-add-requires g c = record { first = c.args.self.now.first }
-
-pub invariant_of-self : goal.invariant_of-self
-invariant_of-self g c = record { first = c.add.ensures.ready.first }

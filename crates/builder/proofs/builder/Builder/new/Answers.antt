@@ -1,6 +1,5 @@
-use Rattle.std.proofs.Common.{length, sym, ap, ◌∙◌, arith}
+use Rattle.std.proofs.Common.{length, sym, ◌∙◌, arith}
 use Rattle.std.proofs.lemmas.List.{length-take-le}
-use Rattle.construction.specs.Records.{Held}
 use Rattle.builder.proofs.Allowed.{used_within, used_arcs}
 use Rattle.builder.proofs.builder.Builder.new.Goals as goal
 
@@ -20,9 +19,6 @@ new-core-requires g c =
       slotroom = omega (arith, s, u.2, c.usable-n.ensures, c.clear.auto.slots);
       clear = c.clear.ensures;
     }
-
-pub invariant_of-result : goal.invariant_of-result
-invariant_of-result g c = record { first = λ z. ap (λ (h : Held g.O.Output.kind.Ideal). h.pairs) c.new-core.ensures.holds }
 
 pub returns : goal.returns
 returns g c =

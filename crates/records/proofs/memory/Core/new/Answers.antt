@@ -1,31 +1,8 @@
-use Rattle.std.proofs.Common.{◌≡◌, List, [], map, reverse, length, sym, ap, subst, arith}
-use Rattle.stacks.specs.Stacks.{lows, highs, capacity}
+use Rattle.std.proofs.Common.{◌≡◌, [], length, sym, ap, subst, arith}
+use Rattle.stacks.specs.Stacks.{lows, highs}
 use Rattle.register.proofs.Entering.{used_none}
-use Rattle.records.specs.declared.record.State.{State}
 use Rattle.records.specs.Lying.{Laid, Since, Packed}
-use Rattle.records.specs.Holding.{arcs_of, closed_state, open_record, counts}
-use Rattle.records.specs.Registering.{Register}
 use Rattle.records.proofs.memory.Core.new.Goals as goal
-
-pub returns : goal.returns
-returns g c =
-    let mean = g.O.Output.meaning in
-    let s = c.new.ensures in
-    let a = c.new-2.ensures in
-    let ls : lows c.new.result ≡ [] = s.lows in
-    let hs : highs c.new.result ≡ [] = s.highs in
-    let sc : capacity c.new.result ≡ length c.args.states.now = s.capacity in
-    let ac : capacity c.new-2.result ≡ length c.args.arcs.now = a.capacity in
-    let z : length (lows c.new-2.result) ≡ 0 = ap length a.lows in
-    let st : mean c.empty.result ≡ g.O.Output.kind.empty = c.empty.ensures in
-    let es = arcs_of mean (highs c.new-2.result) in
-    let os = arcs_of mean (lows c.new-2.result) in
-    record {
-      stateroom = s.capacity;
-      arcroom = a.capacity;
-      registered = subst (λ (ss : List (State g.row.O.Denot)). Register g.O.Output.digested c.args.slots.now (map (closed_state mean es) ss)) (sym ls) (record { entered = λ q h. absurd (omega arith); distinct = λ p q l h. absurd (omega arith) });
-      holds = λ i. record { closed = record { states = map (closed_state mean es) (ls i); counts = counts mean (ls i) }; open' = reverse (map (open_record mean os) (hs i)); start = st i; pairs = 0 };
-    }
 
 pub invariant_of-result : goal.invariant_of-result
 invariant_of-result g c =
