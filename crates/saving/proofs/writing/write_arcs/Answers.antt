@@ -1,7 +1,4 @@
-use Rattle.std.proofs.Common.{ap, subst, arith}
-use Rattle.std.proofs.lemmas.List.{take_all}
-use Rattle.images.specs.Images.{arcs_bits}
-use Rattle.records.specs.Holding.{arcs_of}
+use Rattle.std.proofs.Common.{subst, arith}
 use Rattle.saving.proofs.Turns.{arcs_more}
 use Rattle.saving.proofs.writing.write_arcs.Goals as goal
 
@@ -10,9 +7,3 @@ loop-arc-preserved g c =
     subst (λ row. g.K.BitSink.took c.args.sink.now row c.write_arc.new.sink)
     (arcs_more g.O.Output.kind g.O.Output.meaning c.args.arcs.now c.loop-arc.arc-index c.arc-item.result (omega arith) c.arc-item.is)
     (g.K.BitSink.taking.in_turn _ _ _ _ _ c.loop-arc.invariant c.write_arc.ensures)
-
-pub returns : goal.returns
-returns g c =
-    subst (λ row. g.K.BitSink.took c.args.sink.now row c.loop-arc.sink)
-    (ap (λ as'. arcs_bits g.O.Output.kind (arcs_of g.O.Output.meaning as')) (take_all c.loop-arc.arc-index c.args.arcs.now (omega arith)))
-    c.loop-arc.invariant

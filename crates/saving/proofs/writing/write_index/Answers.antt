@@ -1,7 +1,6 @@
 use Rattle.std.proofs.Common.{map, length, take, ap, subst, arith, length-append}
-use Rattle.std.proofs.lemmas.List.{take_all}
 use Rattle.outputs.specs.Bits.{bits}
-use Rattle.images.specs.Images.{in_turn, index_bits, places}
+use Rattle.images.specs.Images.{in_turn}
 use Rattle.records.proofs.Laying.{placed_at, packed_placed}
 use Rattle.saving.specs.Standing.{record_of}
 use Rattle.saving.proofs.Turns.{records_more, records_within, record_within, index_more}
@@ -38,10 +37,3 @@ loop-state-preserved g c =
       subst (λ row. took c.args.sink.now row c.put.new.self) (index_more f c.args.base rows.states.now i x (omega arith)) (g.K.BitSink.taking.in_turn _ _ _ _ _ taken entry),
       omega (arith, place, c.place_behind-place.ensures, length-append (in_turn before) (f x), ap length (records_more f rows.states.now i x (omega arith) c.state-item.is)),
     )
-
-pub returns : goal.returns
-returns g c =
-    let rows = c.args.rows.now in
-    subst (λ row. g.K.BitSink.took c.args.sink.now row c.loop-state.sink)
-    (ap (λ ss. index_bits (places c.args.base (map (record_of g.O.Output.kind g.O.Output.meaning rows.arcs.now) ss))) (take_all c.loop-state.state-index rows.states.now (omega arith)))
-    c.loop-state.invariant.0

@@ -1,6 +1,4 @@
-use Rattle.std.proofs.Common.{map, length, ap, subst, arith}
-use Rattle.std.proofs.lemmas.List.{take_all}
-use Rattle.images.specs.Images.{in_turn}
+use Rattle.std.proofs.Common.{length, subst, arith}
 use Rattle.records.proofs.Laying.{placed_at, packed_placed}
 use Rattle.saving.specs.Standing.{record_of}
 use Rattle.saving.proofs.Turns.{records_more}
@@ -19,10 +17,3 @@ loop-state-preserved g c =
     subst (λ row. g.K.BitSink.took c.args.sink.now row c.write_record.new.sink)
     (records_more (record_of g.O.Output.kind g.O.Output.meaning rows.arcs.now) rows.states.now c.loop-state.state-index c.state-item.result (omega arith) c.state-item.is)
     (g.K.BitSink.taking.in_turn _ _ _ _ _ c.loop-state.invariant c.write_record.ensures)
-
-pub returns : goal.returns
-returns g c =
-    let rows = c.args.rows.now in
-    subst (λ row. g.K.BitSink.took c.args.sink.now row c.loop-state.sink)
-    (ap (λ ss. in_turn (map (record_of g.O.Output.kind g.O.Output.meaning rows.arcs.now) ss)) (take_all c.loop-state.state-index rows.states.now (omega arith)))
-    c.loop-state.invariant
