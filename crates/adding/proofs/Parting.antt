@@ -22,11 +22,11 @@ common_upto (suc i) (a ∷ u) (b ∷ v) hu hv e =
     omega arith
 
 -- the next bytes differ
-common_stop : (i : ℕ) (u v : Key) → i < length u → i < length v → (get_or u i 0 ≡ get_or v i 0 → ⊥) → common_length (drop i u) (drop i v) ≡ 0
+pub common_stop : (i : ℕ) (u v : Key) → i < length u → i < length v → (get_or u i 0 ≡ get_or v i 0 → ⊥) → common_length (drop i u) (drop i v) ≡ 0
 common_stop i u v hu hv n = (λ j. common_length (drop_more u i 0 hu j) (drop_more v i 0 hv j)) ∙ common_other (get_or u i 0) (get_or v i 0) (drop (i + 1) u) (drop (i + 1) v) n
 
 -- one key ends
-common_past : (i : ℕ) (u v : Key) → min (length u) (length v) ≤ i → common_length (drop i u) (drop i v) ≡ 0
+pub common_past : (i : ℕ) (u v : Key) → min (length u) (length v) ≤ i → common_length (drop i u) (drop i v) ≡ 0
 common_past zero [] v h = refl
 common_past zero (a ∷ u) [] h = refl
 common_past zero (a ∷ u) (b ∷ v) h = absurd (omega arith)

@@ -6,13 +6,37 @@ use records::record::{Arc, State};
 use reference::machine::{Arc as PlainArc, Machine, State as PlainState};
 use saving::{Rows, closed_rows};
 
+/// Records in any order and shape: a trial takes nothing of them on trust.
+#[derive(Clone, Copy)]
+pub struct Records<'b, O> {
+    /// The states by number.
+    pub states: &'b [State<O>],
+    /// The arcs of all states.
+    pub arcs: &'b [Arc<O>],
+    /// What is put out before the first byte.
+    pub start: O,
+    /// How many pairs there are.
+    pub keys: u32,
+}
+
 /// The records of a sealed dictionary.
 pub fn rows_of<'a, 'b, O: Output>(sealed: &'b Sealed<'a, O>) -> Rows<'b, O> {
     closed_rows(sealed.memory())
 }
 
+/// The same, with no claim of how they lie.
+pub fn records_of<'a, 'b, O: Output>(sealed: &'b Sealed<'a, O>) -> Records<'b, O> {
+    let rows = rows_of(sealed);
+    Records {
+        states: rows.states,
+        arcs: rows.arcs,
+        start: rows.start,
+        keys: rows.keys,
+    }
+}
+
 /// Whether states, arcs, keys, outputs and counts are those of a plain machine.
-pub fn agrees<'b, V: Twin>(machine: &Machine<V>, rows: &Rows<'b, V::Proved>) -> bool {
+pub fn agrees<'b, V: Twin>(machine: &Machine<V>, rows: &Records<'b, V::Proved>) -> bool {
     rows.states.len() == machine.states.len()
         && rows.arcs.len() == machine.arc_count()
         && rows.keys as usize == machine.keys
@@ -54,7 +78,7 @@ fn same_arc<V: Twin>(plain: &PlainArc<V>, arc: &Arc<V::Proved>) -> bool {
         && plain.output.means(&arc.output)
 }
 
-/// The arcs of a closed state, whose place is counted from the end of the arc list; none where the list has not so many, since a trial takes nothing on trust.
+/// The arcs of a closed state, whose place is counted from the end of the arc list; none where the list has not so many.
 fn arcs_of<'b, O: Output>(state: &State<O>, arcs: &'b [Arc<O>]) -> &'b [Arc<O>] {
     let first = arcs.len().saturating_sub(state.first as usize);
     let end = first.saturating_add(state.count as usize);
@@ -62,7 +86,7 @@ fn arcs_of<'b, O: Output>(state: &State<O>, arcs: &'b [Arc<O>]) -> &'b [Arc<O>] 
 }
 
 /// The state that a byte string leads to, and what is put out on the way.
-pub fn walk<'b, O: Output>(rows: &Rows<'b, O>, string: &[u8]) -> Option<(State<O>, O)> {
+pub fn walk<'b, O: Output>(rows: &Records<'b, O>, string: &[u8]) -> Option<(State<O>, O)> {
     let mut state = *rows.states.last()?;
     let mut output = rows.start;
     for byte in string {
@@ -78,13 +102,13 @@ fn arc_on<O: Output>(arcs: &[Arc<O>], byte: u8) -> Option<&Arc<O>> {
 }
 
 /// What is put out where a byte string ends.
-pub fn end_after<'b, O: Output>(rows: &Rows<'b, O>, string: &[u8]) -> Option<O> {
+pub fn end_after<'b, O: Output>(rows: &Records<'b, O>, string: &[u8]) -> Option<O> {
     let (state, _) = walk(rows, string)?;
     state.end
 }
 
 /// The output of a key.
-pub fn answer<'b, O: Output>(rows: &Rows<'b, O>, key: &[u8]) -> Option<O> {
+pub fn answer<'b, O: Output>(rows: &Records<'b, O>, key: &[u8]) -> Option<O> {
     let (state, output) = walk(rows, key)?;
     Some(output.join(&state.end?))
 }

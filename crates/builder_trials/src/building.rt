@@ -15,22 +15,47 @@ pub struct Built<'a, O: Output> {
     pub sealed: Sealed<'a, O>,
 }
 
+/// A pair for a builder, with its answer.
+#[derive(Drop)]
+pub struct Line<O> {
+    pub pair: Pair<O>,
+    pub answer: Result<(), AddRefusal>,
+}
+
+/// The pairs of a list, not yet answered.
+pub fn lines_of<V: Twin>(heap: Global, pairs: &[Pair<V>]) -> Result<Vec<Line<V::Proved>>, Fault> {
+    let mut lines = Vec::new(heap);
+    for pair in pairs {
+        lines.push(Line {
+            pair: Pair {
+                key: pair.key.clone()?,
+                output: pair.output.proved()?,
+            },
+            answer: Ok(()),
+        })?;
+    }
+    Ok(lines)
+}
+
 /// Adds the pairs in turn, notes the answers, and seals.
-pub fn build<'a, V: Twin>(
+pub fn build<'a, O: Output>(lines: &mut [Line<O>], lent: &'a mut Lent<O>) -> Sealed<'a, O> {
+    let mut builder = lent.builder();
+    for line in lines {
+        line.answer = builder.add(line.pair.key.as_slice(), line.pair.output);
+    }
+    builder.seal()
+}
+
+/// The same of a list of plain pairs, with memory for the answers.
+pub fn build_list<'a, V: Twin>(
     heap: Global,
     pairs: &[Pair<V>],
     lent: &'a mut Lent<V::Proved>,
 ) -> Result<Built<'a, V::Proved>, Fault> {
-    let mut builder = lent.builder();
-    let mut answers = Vec::new(heap);
-    for pair in pairs {
-        let output = pair.output.proved()?;
-        answers.push(builder.add(pair.key.as_slice(), output))?;
-    }
-    Ok(Built {
-        answers,
-        sealed: builder.seal(),
-    })
+    let mut lines = lines_of(heap, pairs)?;
+    let sealed = build(lines.as_mut_slice(), lent);
+    let answers = lines.iter().map(|line| line.answer).collect(heap)?;
+    Ok(Built { answers, sealed })
 }
 
 /// The number of a refusal, if an answer is one.

@@ -1,6 +1,6 @@
 //! A trial: a list given to a builder in some memory, and held to what the definitions say.
-use crate::agreeing::{agrees, rows_of};
-use crate::building::{Built, build, number_of};
+use crate::agreeing::{agrees, records_of};
+use crate::building::{Built, build_list, number_of};
 use adding::refusal::AddRefusal;
 use builder::Sealed;
 use lending::Lent;
@@ -51,7 +51,7 @@ pub fn try_list<V: Twin>(
 ) -> Result<Vec<Result<(), AddRefusal>>, Fault> {
     let expected = answers_to(heap, pairs, room)?;
     let mut lent = Lent::new(heap, room.states, room.arcs, room.states)?;
-    let Built { answers, sealed } = build(heap, pairs, &mut lent)?;
+    let Built { answers, sealed } = build_list(heap, pairs, &mut lent)?;
     score.lists = score.lists.saturating_add(1);
     if let Some(agrees) = is_expected(heap, expected.taken.as_slice(), &sealed)? {
         score.machines = score.machines.saturating_add(1);
@@ -73,7 +73,7 @@ fn is_expected<'a, V: Twin>(
     let machine = compile(heap, taken)?;
     let counts = sealed.counts();
     let counted = counts.states == machine.states.len() && counts.arcs == machine.arc_count();
-    Ok(Some(counted && agrees(&machine, &rows_of(sealed))))
+    Ok(Some(counted && agrees(&machine, &records_of(sealed))))
 }
 
 /// Counts the answers and those that are other than expected.

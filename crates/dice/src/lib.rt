@@ -26,13 +26,14 @@ impl<const SKIPPED: u32> Dice<SKIPPED> {
         state
     }
 
-    /// A number below `sides`, or 0 where there is none.
+    /// A number below `sides`, or 0 where there is none. Each call is a throw.
     pub fn below(&mut self, sides: usize) -> usize
         ensures { 0 < sides → result < sides }
     {
+        let thrown = self.step().wrapping_shr(SKIPPED) as usize;
         if sides == 0 {
             return 0;
         }
-        self.step().wrapping_shr(SKIPPED) as usize % sides
+        thrown % sides
     }
 }

@@ -64,7 +64,7 @@ pub fn read_both<V: Twin>(
 
 /// What the plain reading answers on an image.
 fn read_plainly<V: Twin>(heap: Global, bytes: &[u8]) -> Result<Result<(), Report>, Fault> {
-    match take(heap, V::KIND, bytes, WORKING) {
+    match take(heap, V::KIND as u8, bytes, WORKING) {
         Ok(()) => Ok(Ok(())),
         Err(Stop::Refused(report)) => Ok(Err(report)),
         Err(Stop::Memory(error)) => Err(Fault::Memory(error)),

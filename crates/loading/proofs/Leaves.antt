@@ -52,7 +52,7 @@ module _ {Y : Type 0} (k : Kind) (m : Y → k.Ideal) (bytes : List ℕ) (p : ℕ
   By y x = m y ≡ x
 
   -- an output that is read, from a place within the bits
-  output_reads : Laws k → p ≤ length (spread bytes) → (y : Y × ℕ) → Read {E = Stores.Refusal} k m (k.read (drop p (spread bytes))) p (missing p bytes) (Ok y) →
+  pub output_reads : Laws k → p ≤ length (spread bytes) → (y : Y × ℕ) → Read {E = Stores.Refusal} k m (k.read (drop p (spread bytes))) p (missing p bytes) (Ok y) →
       Answers By (output (spread bytes) k p) (Ok y) × ((y.1 ≤ length (spread bytes)) × (y.1 < 2 ^ 32))
   unfolding output
   output_reads laws inside y = go (k.read (drop p (spread bytes))) refl
@@ -66,7 +66,7 @@ module _ {Y : Type 0} (k : Kind) (m : Y → k.Ideal) (bytes : List ℕ) (p : ℕ
       go no_code e h = absurd h
 
   -- and one that is not
-  output_refuses : (e : Unread Stores.Refusal) → Read {E = Stores.Refusal} k m (k.read (drop p (spread bytes))) p (missing p bytes) (Err e) →
+  pub output_refuses : (e : Unread Stores.Refusal) → Read {E = Stores.Refusal} k m (k.read (drop p (spread bytes))) p (missing p bytes) (Err e) →
       Answers By (output (spread bytes) k p) (Err (unread_at p e))
   unfolding output
   output_refuses e = go (k.read (drop p (spread bytes)))

@@ -9,7 +9,7 @@ use Rattle.images.proofs.Standing.{then_reads, then_tests}
 use Rattle.loading.specs.Ends.{all_marked, filled}
 
 -- a test that finds fault refuses
-test_refuses : {B : Type 0} (n at : ℕ) (t : Bool) (s : Reader B) (p : ℕ) → t ≡ true → ◌>>◌ (refuse n at t) s p ≡ refuses (refusal_at n at)
+pub test_refuses : {B : Type 0} (n at : ℕ) (t : Bool) (s : Reader B) (p : ℕ) → t ≡ true → ◌>>◌ (refuse n at t) s p ≡ refuses (refusal_at n at)
 test_refuses {B} n at t s p e = ap {A = Bool} {B = Step B} (λ b. ◌>>◌ (refuse n at b) s p) e
 
 module _ (k : Kind) (all : List Bool) (index n p : ℕ) (w : List ℕ) where

@@ -21,10 +21,16 @@ use Rattle.lookups.proofs.RecordParts.{bits_below, opening_is}
 use Rattle.lookups.proofs.HeldStates.{held_stored}
 
 -- no element behind the last
-at_past : {A : Type 0} (xs : List A) (i : ℕ) → length xs ≤ i → at xs i ≡ none
+pub at_past : {A : Type 0} (xs : List A) (i : ℕ) → length xs ≤ i → at xs i ≡ none
 at_past [] i h = refl
 at_past (x ∷ xs) zero h = absurd (omega arith)
 at_past (x ∷ xs) (suc i) h = at_past xs i (omega arith)
+
+-- and where there is none, all stand before
+pub past_at : {A : Type 0} (xs : List A) (i : ℕ) → at xs i ≡ none → length xs ≤ i
+past_at [] i h = omega arith
+past_at (x ∷ xs) zero h = let z : ◌≡◌ {A = ℕ} 0 1 = cc in absurd (omega arith)
+past_at (x ∷ xs) (suc i) h = omega (arith, past_at xs i h)
 
 length_each : {A : Type 0} (done : List ℕ) (ss : List (State A)) → length (count_each done ss) ≡ length done + length ss
 length_each done [] = omega arith
@@ -32,7 +38,7 @@ length_each done (s ∷ ss) =
     let own : ℕ = end_flag s.end + sum_at done s.arcs in
     omega (arith, length_each (done ++ (own ∷ [])) ss, length-append done (own ∷ []))
 
-length_counts : {A : Type 0} (ss : List (State A)) → length (counts_of ss) ≡ length ss
+pub length_counts : {A : Type 0} (ss : List (State A)) → length (counts_of ss) ≡ length ss
 length_counts ss = length_each [] ss ∙ omega arith
 
 -- the opening of a record: its flag is set if its ten bits make 512 or more
@@ -44,7 +50,7 @@ flag_one : {A : Type 0} (o : Option A) → end_flag o < 2
 flag_one none = omega arith
 flag_one (some x) = omega arith
 
-opened_so : (k : Kind) (all : List Bool) (p v : ℕ) (s : State k.Ideal) → StateStands k all p s → v ≡ value (take 10 (drop p all)) → OpenedAs k all (record { ends = leb 512 v; arcs = v % 512; place = p + 30 }) s
+pub opened_so : (k : Kind) (all : List Bool) (p v : ℕ) (s : State k.Ideal) → StateStands k all p s → v ≡ value (take 10 (drop p all)) → OpenedAs k all (record { ends = leb 512 v; arcs = v % 512; place = p + 30 }) s
 opened_so k all p v s h e =
     let n : value (take 9 (drop (p + 1) all)) < 512 = bits_below all (p + 1) 9 (omega (arith, h.within)) in
     let t : v ≡ value (take 1 (drop p all)) * 512 + value (take 9 (drop (p + 1) all)) = e ∙ opening_is all p (omega (arith, h.within)) in

@@ -48,9 +48,9 @@ struct Found {
 }
 
 /// Takes an image of a kind, for so many working bytes, or says why not.
-pub fn take(heap: Global, kind: Kind, bytes: &[u8], working: usize) -> Result<(), Stop> {
-    let mut row = Row::new(heap, kind, bytes)?;
-    let head = take_head(&mut row, working)?;
+pub fn take(heap: Global, kind: u8, bytes: &[u8], working: usize) -> Result<(), Stop> {
+    let mut row = Row::new(heap, codes_of(kind), bytes)?;
+    let head = take_head(&mut row, kind, working)?;
     for _ in 0..head.states {
         let _ = row.field(32)?;
     }
@@ -65,11 +65,20 @@ pub fn take(heap: Global, kind: Kind, bytes: &[u8], working: usize) -> Result<()
     test_ending(&mut row, head, &found)
 }
 
-fn take_head(row: &mut Row, working: usize) -> Result<Head, Stop> {
+/// How outputs of a kind are coded: all kinds but that of numbers as texts are.
+fn codes_of(kind: u8) -> Kind {
+    if kind == Kind::Numbers as u8 {
+        Kind::Numbers
+    } else {
+        Kind::Texts
+    }
+}
+
+fn take_head(row: &mut Row, kind: u8, working: usize) -> Result<Head, Stop> {
     if row.field(16)? != 0x5444 {
         return Err(Reason::Mark.at(0));
     }
-    if row.field(8)? != row.kind as usize {
+    if row.field(8)? != usize::from(kind) {
         return Err(Reason::OtherKind.at(16));
     }
     let states = row.field(16)?;

@@ -56,7 +56,7 @@ fn compare_code<V: Twin>(heap: Global, x: &V, tally: &mut Tally) -> Result<(), F
 fn reads_back<V: Twin>(x: &V, bits: &[bool], whole: bool) -> bool {
     match V::Proved::read(&Tape::new(bits), 0) {
         Ok((proved, place)) => whole && place == bits.len() && x.means(&proved),
-        Err(Unread::Cut(())) => !whole,
+        Err(Unread::Cut(_)) => !whole,
         Err(Unread::NoCode) => false,
     }
 }

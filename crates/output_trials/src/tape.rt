@@ -43,18 +43,18 @@ impl<'a> Tape<'a> {
 }
 
 impl BitSource for Tape<'_> {
-    type Short = ();
+    type Short = usize;
 
     ghost all = { λ s. s.bits.now };
 
-    ghost lacks = { λ s p. tt };
+    ghost lacks = { λ s p. length s.bits.now };
 
     ghost steady = { λ s p q h k. refl };
 
-    fn field(&self, place: usize, width: usize) -> Result<u32, ()> {
+    fn field(&self, place: usize, width: usize) -> Result<u32, usize> {
         let width = 1usize.max(width.min(32));
         if place > self.bits.len() || width > self.bits.len() - place {
-            return Err(());
+            return Err(self.bits.len());
         }
         Ok(number_of(&self.bits[place..place + width]))
     }

@@ -6,10 +6,10 @@ use Rattle.machines.proofs.PrefixLaws.{prefix_refl, prefix_antisym, rest_joined}
 use Rattle.searching.specs.Searches.{Left}
 
 module _ {k : Kind} (laws : Laws k) where
-  prefix_if_common : (x z : k.Ideal) → k.common x z ≡ x → PrefixOf k x z
+  pub prefix_if_common : (x z : k.Ideal) → k.common x z ≡ x → PrefixOf k x z
   prefix_if_common x z e = subst (λ y. PrefixOf k y z) e (laws.common_of_right x z)
 
-  common_if_prefix : (x z : k.Ideal) → PrefixOf k x z → k.common x z ≡ x
+  pub common_if_prefix : (x z : k.Ideal) → PrefixOf k x z → k.common x z ≡ x
   common_if_prefix x z p = prefix_antisym laws (k.common x z) x (laws.common_of_left x z) (laws.common_greatest x z x (prefix_refl laws x) p)
 
   -- the rest, where a test has told that there is one

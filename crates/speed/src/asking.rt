@@ -1,5 +1,6 @@
 //! Asking an image.
 use crate::fault::Fault;
+use crate::questions::Questions;
 use loading::Loaded;
 use outputs::output::Output;
 use reading::find;
@@ -21,13 +22,13 @@ impl<O: Output> Tally<O> {
 }
 
 /// Looks all strings up.
-pub fn ask_all<O: Output, S: Store>(loaded: &Loaded<O, S>, questions: &[Vec<u8>]) -> Tally<O> {
+pub fn ask_all<O: Output, S: Store>(loaded: &Loaded<O, S>, questions: &Questions) -> Tally<O> {
     let mut tally = Tally {
         found: 0,
         last: O::empty(),
     };
-    for question in questions {
-        if let Ok(Some(output)) = find(loaded, question.as_slice()) {
+    for question in questions.iter() {
+        if let Ok(Some(output)) = find(loaded, question) {
             tally.found = tally.found.saturating_add(1);
             tally.last = output;
         }
@@ -52,7 +53,7 @@ pub fn check_keys<O: Output, S: Store>(
 /// No string is a key.
 pub fn check_misses<O: Output, S: Store>(
     loaded: &Loaded<O, S>,
-    misses: &[Vec<u8>],
+    misses: &Questions,
 ) -> Result<(), Fault> {
     if ask_all(loaded, misses).found > 0 {
         return Err(Fault::Miss);

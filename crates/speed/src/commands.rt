@@ -3,7 +3,7 @@ use crate::asking::{ask_all, check_keys, check_misses};
 use crate::compiling::{build, compile, open_image, store_image};
 use crate::memory::Memory;
 use crate::pairs::{Kind, kind_of, read_pairs};
-use crate::questions::{QuestionDice, keys_shuffled, near_misses};
+use crate::questions::{QuestionDice, Questions, keys_shuffled, near_misses};
 use crate::report::{print_figures, print_time};
 use crate::timing::best_time;
 use crate::values::Value;
@@ -64,8 +64,8 @@ fn check_sheet<O: Value>(
     let loaded = open_image::<O, ByteStore>(&store, memory.working.as_mut_slice())?;
     let misses = near_misses(rt.alloc(), pairs, &mut QuestionDice::new(SEED))?;
     check_keys(&loaded, pairs)?;
-    check_misses(&loaded, misses.as_slice())?;
-    let count = misses.len();
+    check_misses(&loaded, &misses)?;
+    let count = misses.count();
     println!(rt; "every key has its output, and {count} near misses are absent")?;
     Ok(())
 }
@@ -111,8 +111,8 @@ fn time_finding<O: Value, S: Store>(
     let mut dice = QuestionDice::new(SEED);
     let keys = keys_shuffled(rt.alloc(), pairs, &mut dice)?;
     let misses = near_misses(rt.alloc(), pairs, &mut dice)?;
-    time_find(rt, "find", loaded, keys.as_slice())?;
-    time_find(rt, "miss", loaded, misses.as_slice())
+    time_find(rt, "find", loaded, &keys)?;
+    time_find(rt, "miss", loaded, &misses)
 }
 
 /// Times the looking up of all strings, each round with the answers of the first.
@@ -120,7 +120,7 @@ fn time_find<O: Output, S: Store>(
     rt: &HostRuntime,
     call: &str,
     loaded: &Loaded<O, S>,
-    questions: &[Vec<u8>],
+    questions: &Questions,
 ) -> anyhow::Result<()> {
     let expected = ask_all(loaded, questions);
     let time = best_time(rt, || {
@@ -128,7 +128,7 @@ fn time_find<O: Output, S: Store>(
         ensure!(tally.same(&expected), "two rounds have different answers");
         Ok(())
     })?;
-    print_time(rt, call, time, questions.len())
+    print_time(rt, call, time, questions.count())
 }
 
 fn write_image<O: Value>(

@@ -1,4 +1,7 @@
 //! What an image is asked: the keys in another order, and strings that are nearly keys.
+ghost use Rattle.std.specs.Prelude.{length};
+ghost use Rattle.std.specs.Iterator.{at_most};
+
 use crate::fault::Fault;
 use crate::pairs::holds;
 use dice::Dice;
@@ -10,6 +13,64 @@ const TRIES: usize = 64;
 
 /// Dice for questions.
 pub type QuestionDice = Dice<0>;
+
+/// Strings, one behind another, and where each ends: as a `Vec` each they take three times the memory.
+#[derive(Drop)]
+pub struct Questions {
+    bytes: Vec<u8>,
+    ends: Vec<usize>,
+}
+
+impl Questions {
+    fn new(heap: Global) -> Questions {
+        Questions {
+            bytes: Vec::new(heap),
+            ends: Vec::new(heap),
+        }
+    }
+
+    fn push(&mut self, string: &[u8]) -> Result<(), AllocError> {
+        self.bytes.extend_from_slice(string)?;
+        self.ends.push(self.bytes.len())?;
+        Ok(())
+    }
+
+    /// How many there are.
+    pub fn count(&self) -> usize {
+        self.ends.len()
+    }
+
+    /// The strings in turn.
+    pub fn iter(&self) -> Strings<'_> {
+        Strings {
+            bytes: self.bytes.as_slice(),
+            start: 0,
+            ends: self.ends.as_slice(),
+        }
+    }
+}
+
+/// The strings that are left.
+#[derive(Drop)]
+pub struct Strings<'a> {
+    bytes: &'a [u8],
+    start: usize,
+    ends: &'a [usize],
+}
+
+impl<'a> Iterator for Strings<'a> {
+    type Item = &'a [u8];
+
+    ghost remaining = { λ s. at_most (length s.ends.now) };
+
+    fn next(&mut self) -> Option<&'a [u8]> {
+        let (end, others) = self.ends.split_first()?;
+        let string = self.bytes.get(self.start..*end).unwrap_or(&[]);
+        self.start = *end;
+        self.ends = others;
+        Some(string)
+    }
+}
 
 /// The pairs in another order.
 fn shuffled<'a, O>(
@@ -31,11 +92,12 @@ pub fn keys_shuffled<O>(
     heap: Global,
     pairs: &[Pair<O>],
     dice: &mut QuestionDice,
-) -> Result<Vec<Vec<u8>>, Fault> {
-    shuffled(heap, pairs, dice)?
-        .iter()
-        .map(|pair| -> Result<Vec<u8>, Fault> { Ok(pair.key.clone()?) })
-        .try_collect(heap)
+) -> Result<Questions, Fault> {
+    let mut keys = Questions::new(heap);
+    for pair in shuffled(heap, pairs, dice)? {
+        keys.push(pair.key.as_slice())?;
+    }
+    Ok(keys)
 }
 
 /// For each key a string with one other byte that is no key, where some tries find one.
@@ -43,12 +105,12 @@ pub fn near_misses<O>(
     heap: Global,
     pairs: &[Pair<O>],
     dice: &mut QuestionDice,
-) -> Result<Vec<Vec<u8>>, Fault> {
-    let mut misses = Vec::new(heap);
+) -> Result<Questions, Fault> {
+    let mut misses = Questions::new(heap);
     for pair in shuffled(heap, pairs, dice)? {
         let mut string = pair.key.clone()?;
         if spoil(string.as_mut_slice(), pairs, dice) {
-            misses.push(string)?;
+            misses.push(string.as_slice())?;
         }
     }
     Ok(misses)

@@ -1,7 +1,7 @@
 // All strings over a and b up to a length, in ascending order, each with the number of its b: many keys, and one state for each length.
 use adding::refusal::AddRefusal;
 use builder::{Builder, Sealed};
-use builder_trials::agreeing::{answer, rows_of};
+use builder_trials::agreeing::{answer, records_of};
 use builder_trials::building::number_of;
 use lending::Lent;
 use outputs::number::Number;
@@ -97,7 +97,7 @@ fn right_answers<'a>(
     strings: &Strings,
     sealed: &Sealed<'a, Number>,
 ) -> Result<usize, Fault> {
-    let rows = rows_of(sealed);
+    let rows = records_of(sealed);
     strings.count_where(heap, |key, number| answer(&rows, key) == Some(number))
 }
 

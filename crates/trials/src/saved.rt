@@ -1,5 +1,5 @@
 // The pairs of a sheet sealed and saved on stores of bytes and of words, and loaded back.
-use builder_trials::building::{Built, build};
+use builder_trials::building::{Built, build_list};
 use image_trials::saved::{MEMORY, refuses_short, saves_behind};
 use lending::Lent;
 use output_trials::twin::Twin;
@@ -37,7 +37,7 @@ pub fn print_saved<V: Twin>(
 
 pub fn try_saving<V: Twin>(heap: Global, pairs: &[Pair<V>], image: &[u8]) -> Result<Saving, Fault> {
     let mut lent = Lent::new(heap, ROOM, ROOM, ROOM)?;
-    let Built { sealed, .. } = build(heap, pairs, &mut lent)?;
+    let Built { sealed, .. } = build_list(heap, pairs, &mut lent)?;
     let last = MEMORY.saturating_sub(image.len());
     let whole = saves_behind(heap, &sealed, image, 0)?
         && saves_behind(heap, &sealed, image, 7)?

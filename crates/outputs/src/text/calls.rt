@@ -36,7 +36,7 @@ impl Output for Text {
     }
 
     fn same(&self, other: &Text) -> bool {
-        self == other
+        self.as_bytes() == other.as_bytes()
     }
 
     // A number gathered from the bytes.
@@ -61,10 +61,18 @@ impl Output for Text {
     fn common(&self, other: &Text) -> Text {
         let bytes = self.as_bytes();
         let alike = agreeing(bytes, other.as_bytes());
+        // Most texts of a dictionary's arcs are empty: those are not laid out anew.
+        if alike == self.len {
+            return *self;
+        }
         Text::EMPTY.followed_by(&bytes[..alike])
     }
 
     fn rest(&self, prefix: &Text) -> Text {
+        // As most are.
+        if prefix.len == 0 {
+            return *self;
+        }
         match self.as_bytes().strip_prefix(prefix.as_bytes()) {
             Some(behind) => Text::EMPTY.followed_by(behind),
             None => Text::EMPTY,
