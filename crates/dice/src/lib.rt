@@ -1,7 +1,8 @@
 //! Numbers that look thrown, the same at every run.
 #![tactic(auto)]
 
-ghost use Rattle.std.specs.Prelude.{◌≡◌, ◌<◌};
+ghost use Rattle.std.specs.Prelude.{◌≡◌, ◌/◌, ◌%◌, ◌^◌, ◌<◌};
+ghost use Rattle.dice.specs.Throws.{next};
 
 /// A shift register of 64 bits. Its throws leave out the lowest bits, so many as `SKIPPED` says.
 #[derive(Clone, Copy)]
@@ -17,7 +18,10 @@ impl<const SKIPPED: u32> Dice<SKIPPED> {
         Dice { state: seed }
     }
 
-    fn step(&mut self) -> u64 {
+    fn step(&mut self) -> u64
+        ensures thrown { result ≡ next self.old.state }
+        ensures after { self.new.state ≡ result }
+    {
         let mut state = self.state;
         state ^= state << 13;
         state ^= state >> 7;
@@ -26,9 +30,12 @@ impl<const SKIPPED: u32> Dice<SKIPPED> {
         state
     }
 
-    /// A number below `sides`, or 0 where there is none. Each call is a throw.
+    /// Throws a number below `sides`, or 0 where there is none.
     pub fn below(&mut self, sides: usize) -> usize
-        ensures { 0 < sides → result < sides }
+        ensures below { 0 < sides → result < sides }
+        ensures thrown { 0 < sides → result ≡ next self.old.state / 2 ^ (SKIPPED % 64) % sides }
+        ensures none { sides ≡ 0 → result ≡ 0 }
+        ensures after { self.new.state ≡ next self.old.state }
     {
         let thrown = self.step().wrapping_shr(SKIPPED) as usize;
         if sides == 0 {

@@ -65,7 +65,7 @@ pub fn take(heap: Global, kind: u8, bytes: &[u8], working: usize) -> Result<(), 
     test_ending(&mut row, head, &found)
 }
 
-/// How outputs of a kind are coded: all kinds but that of numbers as texts are.
+/// How the outputs of a kind are coded: as numbers, or, of every other kind, as texts.
 fn codes_of(kind: u8) -> Kind {
     if kind == Kind::Numbers as u8 {
         Kind::Numbers

@@ -1,5 +1,5 @@
 // Bits in memory: what codes are written to, and what they are read from.
-ghost use Rattle.std.specs.Prelude.{◌≡◌, ◌^◌, ◌<◌, ◌≤◌, length, refl};
+ghost use Rattle.std.specs.Prelude.{◌≡◌, ◌^◌, ◌<◌, ◌≤◌, length, take, refl};
 ghost use Rattle.outputs.specs.Bits.{value};
 
 use outputs::sink::BitSink;
@@ -34,10 +34,12 @@ pub struct Tape<'a> {
 }
 
 impl<'a> Tape<'a> {
-    // The bits of a row, of which there are at most 256.
-    pub fn new(row: &'a [bool]) -> Tape<'a> {
+    // The first 256 bits of a row.
+    pub fn new(row: &'a [bool]) -> Tape<'a>
+        ensures { result.bits.now ≡ take 256 row.now }
+    {
         Tape {
-            bits: &row[..row.len().min(MOST)],
+            bits: &row[..MOST.min(row.len())],
         }
     }
 }

@@ -14,7 +14,7 @@ const TRIES: usize = 64;
 /// Dice for questions.
 pub type QuestionDice = Dice<0>;
 
-/// Strings, one behind another, and where each ends: as a `Vec` each they take three times the memory.
+/// Strings, one behind another, and where each ends: a `Vec` for each would take more memory than the strings.
 #[derive(Drop)]
 pub struct Questions {
     bytes: Vec<u8>,
