@@ -1,4 +1,6 @@
 //! A list of pairs given to a builder: what each add answers, and what is sealed.
+ghost use Rattle.std.specs.Prelude.{◌≡◌, IfOk, length, vec_len};
+
 use adding::refusal::AddRefusal;
 use builder::Sealed;
 use lending::Lent;
@@ -46,16 +48,24 @@ pub fn build<'a, O: Output>(lines: &mut [Line<O>], lent: &'a mut Lent<O>) -> Sea
     builder.seal()
 }
 
-/// The same of a list of plain pairs, with memory for the answers.
+/// The same of a list of plain pairs, with memory for the answers alone: lines would copy the keys.
 pub fn build_list<'a, V: Twin>(
     heap: Global,
     pairs: &[Pair<V>],
     lent: &'a mut Lent<V::Proved>,
-) -> Result<Built<'a, V::Proved>, Fault> {
-    let mut lines = lines_of(heap, pairs)?;
-    let sealed = build(lines.as_mut_slice(), lent);
-    let answers = lines.iter().map(|line| line.answer).collect(heap)?;
-    Ok(Built { answers, sealed })
+) -> Result<Built<'a, V::Proved>, Fault>
+    ensures answered { IfOk result (λ built. vec_len built.answers ≡ length pairs.now) }
+{
+    let mut builder = lent.builder();
+    let mut answers = Vec::new(heap);
+    for pair in pairs {
+        let output = pair.output.proved()?;
+        answers.push(builder.add(pair.key.as_slice(), output))?;
+    }
+    Ok(Built {
+        answers,
+        sealed: builder.seal(),
+    })
 }
 
 /// The number of a refusal, if an answer is one.

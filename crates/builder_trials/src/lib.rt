@@ -4,4 +4,6 @@
 pub mod agreeing;
 pub mod building;
 pub mod lists;
+#[cfg(test)]
+mod tests;
 pub mod trial;
