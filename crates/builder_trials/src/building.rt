@@ -1,5 +1,8 @@
 //! A list of pairs given to a builder: what each add answers, and what is sealed.
-ghost use Rattle.std.specs.Prelude.{◌≡◌, IfOk, length, vec_len};
+ghost use Rattle.std.specs.Prelude.{◌≡◌, All, IfNone, IfOk, IfSome, map};
+ghost use Rattle.std.proofs.Math.Option.{none, some};
+ghost use Rattle.adding.specs.Refusals.{told};
+ghost use Rattle.builder_trials.specs.Lists.{keys_of, meant, Ran, RanKeys};
 
 use adding::refusal::AddRefusal;
 use builder::Sealed;
@@ -25,7 +28,10 @@ pub struct Line<O> {
 }
 
 /// The pairs of a list, not yet answered.
-pub fn lines_of<V: Twin>(heap: Global, pairs: &[Pair<V>]) -> Result<Vec<Line<V::Proved>>, Fault> {
+pub fn lines_of<V: Twin>(heap: Global, pairs: &[Pair<V>]) -> Result<Vec<Line<V::Proved>>, Fault>
+    ensures keys { IfOk result (λ lines. keys_of (map (λ line. line.pair) lines.items) ≡ keys_of pairs.now) }
+    ensures unanswered { IfOk result (λ lines. All (λ line. told line.answer ≡ none) lines.items) }
+{
     let mut lines = Vec::new(heap);
     for pair in pairs {
         lines.push(Line {
@@ -40,7 +46,10 @@ pub fn lines_of<V: Twin>(heap: Global, pairs: &[Pair<V>]) -> Result<Vec<Line<V::
 }
 
 /// Adds the pairs in turn, notes the answers, and seals.
-pub fn build<'a, O: Output>(lines: &mut [Line<O>], lent: &'a mut Lent<O>) -> Sealed<'a, O> {
+pub fn build<'a, O: Output>(lines: &mut [Line<O>], lent: &'a mut Lent<O>) -> Sealed<'a, O>
+    ensures pairs { map (λ line. line.pair) lines.new ≡ map (λ line. line.pair) lines.old }
+    ensures ran { Ran O.Output.kind O.Output.meaning lent.old (meant O.Output.kind O.Output.meaning (map (λ line. line.pair) lines.old)) (map (λ line. told line.answer) lines.new) result.core }
+{
     let mut builder = lent.builder();
     for line in lines {
         line.answer = builder.add(line.pair.key.as_slice(), line.pair.output);
@@ -54,7 +63,7 @@ pub fn build_list<'a, V: Twin>(
     pairs: &[Pair<V>],
     lent: &'a mut Lent<V::Proved>,
 ) -> Result<Built<'a, V::Proved>, Fault>
-    ensures answered { IfOk result (λ built. vec_len built.answers ≡ length pairs.now) }
+    ensures ran { IfOk result (λ built. RanKeys V.Proved.Output.kind V.Proved.Output.meaning lent.old (keys_of pairs.now) (map (λ answer. told answer) built.answers.items) built.sealed.core) }
 {
     let mut builder = lent.builder();
     let mut answers = Vec::new(heap);
@@ -69,6 +78,9 @@ pub fn build_list<'a, V: Twin>(
 }
 
 /// The number of a refusal, if an answer is one.
-pub fn number_of(answer: &Result<(), AddRefusal>) -> Option<u8> {
+pub fn number_of(answer: &Result<(), AddRefusal>) -> Option<u8>
+    ensures refused { IfSome result (λ number. told answer.now ≡ some number) }
+    ensures taken { IfNone result (told answer.now ≡ none) }
+{
     answer.as_ref().err().map(|refusal| refusal.number())
 }
